@@ -1,0 +1,3 @@
+pub mod Term
+pub mod Sorts
+pub mod Table

@@ -1,0 +1,46 @@
+-- A table of nodes, each over earlier ones, and the terms that it denotes, one a node.
+use Rattle.std.specs.Prelude.{◌≡◌, ℕ, ◌<◌, ◌≤◌, List, [], ◌∷◌, ◌++◌, Some, IsSome, slice_get, unwrap_or, All}
+use Rattle.bv_terms.specs.declared.op.Op.{Op}
+use Rattle.bv_terms.specs.declared.op.Op.TheVariants as op
+use Rattle.bv_terms.specs.declared.op.TermId.{TermId}
+use Rattle.bv_terms.specs.Term.{Term, Operands, Apply, End, Then}
+use Rattle.bv_terms.specs.Sorts.{sort_of}
+
+-- a node: an operation over nodes
+pub record Entry : Type 0 where
+  pub op : Op
+  pub args : List TermId
+
+-- the width of a pointer in bits, and the nodes in order
+pub record Table : Type 0 where
+  pub pointer : ℕ
+  pub nodes : List Entry
+
+-- the term in a place; past the end, where no node of a table leads, some term
+abbrev pub term_in : List Term → ℕ → Term
+term_in ts k = unwrap_or (slice_get ts k) (Apply (op.Bits 0 0) End)
+
+abbrev pub operands : List Term → List TermId → Operands
+operands ts [] = End
+operands ts (a ∷ rest) = Then (term_in ts a.0) (operands ts rest)
+
+-- the terms so far, and those of the nodes that follow
+abbrev pub terms_from : List Term → List Entry → List Term
+terms_from ts [] = ts
+terms_from ts (e ∷ es) = terms_from (ts ++ Apply e.op (operands ts e.args) ∷ []) es
+
+-- the terms of the nodes, in order
+abbrev pub terms_of : Table → List Term
+terms_of table = terms_from [] table.nodes
+
+-- the term of a node
+abbrev pub term_at : Table → TermId → Term
+term_at table at = term_in (terms_of table) at.0
+
+-- what each table keeps: nodes over earlier nodes, well-sorted, and no two of them equal
+pub record IsTable (table : Table) : Type 0 where
+  pub wide : 1 ≤ table.pointer
+  pub narrow : table.pointer ≤ 64
+  pub earlier : (k : ℕ) (e : Entry) → slice_get table.nodes k ≡ Some e → All (λ a. a.0 < k) e.args
+  pub well_sorted : (k : ℕ) (t : Term) → slice_get (terms_of table) k ≡ Some t → IsSome (sort_of t)
+  pub distinct : (j k : ℕ) (e : Entry) → slice_get table.nodes j ≡ Some e → slice_get table.nodes k ≡ Some e → j ≡ k

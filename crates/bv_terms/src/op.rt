@@ -1,0 +1,33 @@
+use crate::value::Sort;
+
+/// The number of a node in a table of terms.
+#[derive(Clone, Copy, Debug, PartialEq, Eq, Hash)]
+pub struct TermId(pub usize);
+
+/// What a node does with its arguments.
+#[derive(Clone, Copy, Debug, PartialEq, Eq, Hash)]
+pub enum Op {
+    /// The input of that number, of that sort. No argument.
+    Input { number: u32, sort: Sort },
+    /// A constant. No argument.
+    Bits { width: u8, number: u64 },
+    BvNot,
+    BvAnd,
+    BvOr,
+    BvXor,
+    BvAdd,
+    BvSub,
+}
+
+/// Why a node is not made.
+#[derive(Clone, Copy, Debug, PartialEq, Eq)]
+pub enum MakeFault {
+    /// The number of arguments is wrong.
+    Arity,
+    /// The argument at that place, counted from 0, is the first whose sort does not fit.
+    Sorts { place: u32 },
+    /// The width of an input or a constant is not 1 to 64, or a constant is 2^width or more.
+    Index,
+    /// Want of memory.
+    NoMemory,
+}

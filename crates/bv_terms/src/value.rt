@@ -1,0 +1,22 @@
+use lists::Listed;
+
+/// The kind of a value: a truth value, a bit-vector of so many bits, or a memory.
+#[derive(Clone, Copy, Debug, PartialEq, Eq, Hash)]
+pub enum Sort {
+    Bool,
+    Bits(u8),
+    Mem,
+}
+
+/// A truth value, or a bit-vector by its width in bits and the number that it stands for.
+#[derive(Clone, Copy, Debug, PartialEq, Eq, Hash)]
+pub enum Value {
+    Bool(bool),
+    Bits { width: u8, number: u64 },
+}
+
+/// The values of a term's inputs: input `k` has the value in place `k`.
+#[derive(Debug, Drop)]
+pub struct Env {
+    pub values: Listed<Value>,
+}
