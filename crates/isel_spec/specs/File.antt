@@ -1,0 +1,91 @@
+-- What a file says: the meanings of IR operations and of goals, as trees. The file format is this project's own.
+use Rattle.std.specs.Prelude.{ℕ, List, ◌++◌, length, map, slice_get, Bool, true, false, ◌&&◌, ◌==◌, nat_lt, nat_le}
+use Rattle.std.specs.List.{list_all}
+use Rattle.std.specs.Option.{option_map_or}
+use Rattle.bv_terms.specs.declared.op.Op.TheVariants as op
+use Rattle.bv_terms.specs.declared.op.TermId.{TermId}
+use Rattle.bv_terms.specs.declared.value.Sort.{Sort}
+use Rattle.bv_terms.specs.declared.value.Sort.TheVariants as sort
+use Rattle.bv_terms.specs.Term.{Term, Operands, Apply, End, Then}
+use Rattle.bv_terms.specs.Sorts.{same_sort}
+use Rattle.bv_terms.specs.Table.{Table, terms_of, term_in}
+use Rattle.isel_spec.specs.declared.definitions.Kind.{Kind}
+use Rattle.isel_spec.specs.declared.definitions.OpDef.{OpDef}
+use Rattle.isel_spec.specs.declared.definitions.GoalDef.{GoalDef}
+
+-- an operation: in its results argument k is input k, and attribute j is the input j after the arguments
+pub record Operation : Type 0 where
+  pub name : List ℕ
+  pub args : List Sort
+  -- the widths in bits
+  pub attrs : List ℕ
+  pub results : List Term
+
+-- a goal: in its results argument k is input k
+pub record Goal : Type 0 where
+  pub name : List ℕ
+  pub kinds : List Kind
+  pub args : List Sort
+  pub cost : ℕ
+  pub results : List Term
+
+pub record File : Type 0 where
+  -- the width of a pointer in bits
+  pub pointer : ℕ
+  pub ops : List Operation
+  pub goals : List Goal
+
+-- the definitions that stand in a table of terms
+abbrev pub operation : Table → List ℕ × OpDef → Operation
+operation table e = record {
+  name = e.0;
+  args = e.1.args;
+  attrs = e.1.attrs;
+  results = map (λ (at : TermId). term_in (terms_of table) at.0) e.1.results;
+}
+
+abbrev pub goal : Table → List ℕ × GoalDef → Goal
+goal table e = record {
+  name = e.0;
+  kinds = map (λ a. a.0) e.1.args;
+  args = map (λ a. a.1) e.1.args;
+  cost = e.1.cost;
+  results = map (λ (at : TermId). term_in (terms_of table) at.0) e.1.results;
+}
+
+-- the sorts of the inputs of an operation's results
+abbrev pub scope : OpDef → List Sort
+scope def = def.args ++ map (λ w. sort.Bits w) def.attrs
+
+-- each input that stands in the term is one of the scope's, of its sort
+unfoldable mutual
+  pub stays_in : List Sort → Term → Bool
+  stays_in sorts (Apply (op.Input k s) ts) = option_map_or (same_sort s) (slice_get sorts k) false
+  stays_in sorts (Apply o ts) = all_stay_in sorts ts
+
+  pub all_stay_in : List Sort → Operands → Bool
+  all_stay_in sorts End = true
+  all_stay_in sorts (Then t ts) = stays_in sorts t && all_stay_in sorts ts
+
+-- results that are in the table, and whose inputs are the definition's
+abbrev pub are_sound : Table → List Sort → List TermId → Bool
+are_sound table sorts results =
+    list_all (λ (at : TermId). nat_lt at.0 (length table.nodes) && stays_in sorts (term_in (terms_of table) at.0)) results
+
+abbrev pub is_between : ℕ → ℕ → ℕ → Bool
+is_between low high n = nat_le low n && nat_le n high
+
+abbrev pub is_sound_op : Table → List ℕ × OpDef → Bool
+is_sound_op table e =
+    nat_le (length e.1.args) 4 && nat_le (length e.1.attrs) 2 && is_between 1 3 (length e.1.results)
+    && list_all (is_between 1 64) e.1.attrs && are_sound table (scope e.1) e.1.results
+
+abbrev pub is_sound_goal : Table → List ℕ × GoalDef → Bool
+is_sound_goal table e =
+    nat_le (length e.1.args) 4 && is_between 1 3 (length e.1.results) && are_sound table (map (λ a. a.1) e.1.args) e.1.results
+
+-- what each `Spec` keeps: one width of pointers, the limits on numbers, and results whose inputs are their definition's
+abbrev pub is_sound : ℕ → Table → List (List ℕ × OpDef) → List (List ℕ × GoalDef) → Bool
+is_sound pointer table ops goals =
+    (pointer == table.pointer) && nat_le (length ops) 64 && nat_le (length goals) 256
+    && list_all (is_sound_op table) ops && list_all (is_sound_goal table) goals

@@ -1,0 +1,29 @@
+use bv_terms::{Sort, TermId};
+use lists::Listed;
+
+/// An IR operation: the sorts of its arguments, the widths of its attributes in bits, and its
+/// results. In the terms of the results argument `k` is input `k`, and attribute `j` is the input
+/// `j` after the arguments.
+#[derive(Debug, Drop)]
+pub struct OpDef {
+    pub args: Listed<Sort>,
+    pub attrs: Listed<u8>,
+    pub results: Listed<TermId>,
+}
+
+/// Where a target instruction takes an argument from: a register, an immediate operand, or memory.
+#[derive(Clone, Copy, Debug, PartialEq, Eq)]
+pub enum Kind {
+    Reg,
+    Imm,
+    Mem,
+}
+
+/// A target instruction: the kinds and sorts of its arguments, its results, and what it costs.
+/// In the terms of the results argument `k` is input `k`.
+#[derive(Debug, Drop)]
+pub struct GoalDef {
+    pub args: Listed<(Kind, Sort)>,
+    pub results: Listed<TermId>,
+    pub cost: u32,
+}

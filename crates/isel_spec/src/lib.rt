@@ -1,0 +1,8 @@
+//! What a file says: the meanings of IR operations and of target instructions (goals).
+#![tactic(auto)]
+
+mod definitions;
+mod spec;
+
+pub use definitions::{GoalDef, Kind, OpDef};
+pub use spec::Spec;
