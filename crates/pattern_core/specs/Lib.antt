@@ -1,0 +1,4 @@
+pub mod Pattern
+pub mod Walk
+pub mod Order
+pub mod Library

@@ -1,0 +1,86 @@
+-- Patterns: which are well-formed for a goal, and what they compute.
+-- Patterns as programs over components: Gulwani, Jha, Tiwari, Venkatesan, PLDI 2011; rules: Buchwald, Fried, Hack, CGO 2018.
+use Rattle.std.specs.Prelude.{◌≡◌, ℕ, ◌^◌, ◌<◌, ◌≤◌, List, [], ◌∷◌, ◌++◌, length, map, Option, Some, None, slice_get, unwrap_or, false, Contains, nat_lt, option_and_then, ◌⊎◌, if◌then◌else◌}
+use Rattle.bv_terms.specs.declared.value.Sort.{Sort}
+use Rattle.bv_terms.specs.declared.value.Value.{Value}
+use Rattle.bv_terms.specs.declared.value.Value.TheVariants as val
+use Rattle.bv_terms.specs.Term.{value}
+use Rattle.bv_terms.specs.Sorts.{sort_of, HaveSorts}
+use Rattle.isel_spec.specs.File.{File, Operation, Goal}
+use Rattle.pattern_core.specs.declared.pattern.Src.{Src}
+use Rattle.pattern_core.specs.declared.pattern.Src.TheVariants.{Input, Out}
+use Rattle.pattern_core.specs.declared.pattern.Node.{Node}
+use Rattle.pattern_core.specs.declared.pattern.Pattern.{Pattern}
+
+-- the value of a source, where the inputs and the nodes' results have these values
+abbrev pub source_value : List Value → List (List Value) → Src → Value
+source_value inputs outs (Input k) = unwrap_or (slice_get inputs k) (val.Bool false)
+source_value inputs outs (Out node result) = unwrap_or (slice_get (unwrap_or (slice_get outs node) []) result) (val.Bool false)
+
+-- numbers as bit-vectors of these widths
+abbrev pub attr_values : List ℕ → List ℕ → List Value
+attr_values (w ∷ ws) (n ∷ ns) = val.Bits w n ∷ attr_values ws ns
+attr_values _ _ = []
+
+-- an operation's results at attributes and arguments
+abbrev pub op_results : Option Operation → List ℕ → List Value → List Value
+op_results None attrs args = []
+op_results (Some o) attrs args = map (value (args ++ attr_values o.attrs attrs)) o.results
+
+-- the results of each node, where the earlier nodes have these
+abbrev pub outs_from : File → List Value → List (List Value) → List Node → List (List Value)
+outs_from f inputs outs [] = outs
+outs_from f inputs outs (n ∷ ns) =
+    outs_from f inputs (outs ++ op_results (slice_get f.ops n.op) n.attrs (map (source_value inputs outs) n.args) ∷ []) ns
+
+abbrev pub pattern_results : File → Pattern → List Value → List Value
+pattern_results f p inputs = map (source_value inputs (outs_from f inputs [] p.nodes)) p.results
+
+abbrev pub goal_results : Goal → List Value → List Value
+goal_results g inputs = map (value inputs) g.results
+
+-- the pattern gives the goal's results on every input
+abbrev pub IsRule : File → Goal → Pattern → Type 0
+IsRule f g p = (inputs : List Value) → HaveSorts g.args inputs → pattern_results f p inputs ≡ goal_results g inputs
+
+-- the sort of an operation's result, where it has it
+abbrev pub operation_sort : Option Operation → ℕ → Option Sort
+operation_sort None result = None
+operation_sort (Some o) result = option_and_then sort_of (slice_get o.results result)
+
+-- the sort of a source of a node or a result that stands after k nodes, where it has one
+abbrev pub source_sort : File → Goal → List Node → ℕ → Src → Option Sort
+source_sort f g nodes k (Input i) = slice_get g.args i
+source_sort f g nodes k (Out node result) =
+    if nat_lt node k
+    then operation_sort (option_and_then (λ (n : Node). slice_get f.ops n.op) (slice_get nodes node)) result
+    else None
+
+-- lists of one length, whose elements stand in a relation one by one
+abbrev pub Pairwise : {A B : Type 0} → (A → B → Type 0) → List A → List B → Type 0
+Pairwise R [] [] = Unit {0}
+Pairwise R (x ∷ xs) (y ∷ ys) = R x y × Pairwise R xs ys
+Pairwise R [] (y ∷ ys) = ⊥
+Pairwise R (x ∷ xs) [] = ⊥
+
+-- the k-th node: its operation is in the file, and its attributes and arguments fit
+pub record IsFitting (f : File) (g : Goal) (nodes : List Node) (k : ℕ) (n : Node) : Type 0 where
+  pub operation : Operation
+  pub in_file : slice_get f.ops n.op ≡ Some operation
+  pub attrs : Pairwise (λ w a. a < 2 ^ w) operation.attrs n.attrs
+  pub args : map (source_sort f g nodes k) n.args ≡ map (λ s. Some s) operation.args
+
+abbrev pub args_of : Option Node → List Src
+args_of None = []
+args_of (Some n) = n.args
+
+-- a later node or a result names node k
+abbrev pub IsNamed : Pattern → ℕ → Type 0
+IsNamed p k = (result : ℕ) × (Contains p.results (Out k result) ⊎ ((j : ℕ) × Contains (args_of (slice_get p.nodes j)) (Out k result)))
+
+-- what is a pattern for a goal
+pub record IsWellFormed (f : File) (g : Goal) (p : Pattern) : Type 0 where
+  pub size : length p.nodes ≤ 6
+  pub nodes : (k : ℕ) (n : Node) → slice_get p.nodes k ≡ Some n → IsFitting f g p.nodes k n
+  pub results : map (source_sort f g p.nodes (length p.nodes)) p.results ≡ map sort_of g.results
+  pub named : (k : ℕ) → k < length p.nodes → IsNamed p k

@@ -1,0 +1,26 @@
+-- The walk of a pattern: from the results in order, through the arguments of each node from left to right. A node is entered once,
+-- and left after its arguments. A depth-first postorder, as in the textbooks on graphs.
+use Rattle.std.specs.Prelude.{◌≡◌, ℕ, zero, suc, List, [], ◌∷◌, ◌++◌, length, slice_get, nat_eq, fold, if◌then◌else◌}
+use Rattle.std.specs.List.{list_any}
+use Rattle.pattern_core.specs.declared.pattern.Src.{Src}
+use Rattle.pattern_core.specs.declared.pattern.Src.TheVariants.{Input, Out}
+use Rattle.pattern_core.specs.declared.pattern.Node.{Node}
+use Rattle.pattern_core.specs.declared.pattern.Pattern.{Pattern}
+use Rattle.pattern_core.specs.Pattern.{args_of}
+
+-- the nodes that the walk from a source has left, after those that it had left before; at most so many nodes deep
+unfoldable pub walk : ℕ → List Node → List ℕ → Src → List ℕ
+walk deep nodes left (Input k) = left
+walk zero nodes left (Out node result) = left
+walk (suc deep) nodes left (Out node result) =
+    if list_any (nat_eq node) left then left
+    else fold (walk deep nodes) left (args_of (slice_get nodes node)) ++ node ∷ []
+
+-- the numbers below n, rising
+abbrev pub below : ℕ → List ℕ
+below zero = []
+below (suc n) = below n ++ n ∷ []
+
+-- the nodes stand in the order in which the walk from the results leaves them, none missing
+abbrev pub IsCanonical : Pattern → Type 0
+IsCanonical p = fold (walk (length p.nodes) p.nodes) [] p.results ≡ below (length p.nodes)

@@ -1,0 +1,32 @@
+use lists::Listed;
+
+/// Where an argument of a node or a result of a pattern comes from: an input of the goal, or a
+/// result of a node. All are counted from 0.
+#[derive(Clone, Copy, Debug, PartialEq, Eq)]
+pub enum Src {
+    Input(u8),
+    Out { node: u8, result: u8 },
+}
+
+/// An operation of the file, by its place there, over attributes and arguments.
+#[derive(Debug, Drop)]
+pub struct Node {
+    pub op: u16,
+    pub attrs: Listed<u64>,
+    pub args: Listed<Src>,
+}
+
+/// Nodes, each over earlier ones, and the sources of the goal's results.
+#[derive(Debug, Drop)]
+pub struct Pattern {
+    pub nodes: Listed<Node>,
+    pub results: Listed<Src>,
+}
+
+/// What a library says of a goal: all its patterns of the least size that has one, or that none of
+/// the sizes within the bound has one.
+#[derive(Debug, Drop)]
+pub enum GoalAnswer {
+    Complete { size: u8, rules: Listed<Pattern> },
+    None,
+}
