@@ -1,2 +1,4 @@
 pub mod File
 pub mod Spec
+pub mod Text
+pub mod Form
