@@ -1,2 +1,4 @@
-//! The commands of the program.
+//! The commands of the program, over a source of files and two sinks that are handed in.
 #![tactic(auto)]
+
+pub mod outside;
