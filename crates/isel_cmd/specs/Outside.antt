@@ -1,5 +1,5 @@
 -- What reads and writes do to the objects that are handed in, and the causes of their faults.
-use Rattle.std.specs.Prelude.{◌≡◌, ℕ, zero, suc, ◌+◌, ◌-◌, ◌*◌, ◌^◌, ◌<◌, ◌≤◌, ◌↔◌, min, List, [], ◌∷◌, ◌++◌, length, take, drop, Option, option_map, Result, Ok, Err, IfOk}
+use Rattle.std.specs.Prelude.{◌≡◌, ℕ, ◌+◌, ◌-◌, ◌^◌, ◌<◌, ◌≤◌, ◌↔◌, min, List, ◌++◌, length, take, drop, Option, option_map, Result, Ok, Err, IfOk}
 use Rattle.isel_cmd.specs.declared.outside.traits.Failed.{Failed}
 
 -- A count of faults rose. One that stands at the greatest number of 64 bits counts as risen.

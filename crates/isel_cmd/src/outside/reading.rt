@@ -64,11 +64,7 @@ fn read_next<F: Files>(
 }
 
 /// All bytes of a file, if there are at most 2^20. It reads until a read answers that none are left.
-pub fn read_all<F: Files>(
-    alloc: Global,
-    files: &mut F,
-    name: &str,
-) -> Result<Vec<u8>, ReadAllFault>
+pub fn read_all<F: Files>(alloc: Global, files: &mut F, name: &str) -> Result<Vec<u8>, ReadAllFault>
     ensures bytes { IfSome (F.bytes files.old name.now) (λ all. IfOk result (λ v. v.items ≡ all)) }
     ensures short { IfOk result (λ v. length v.items ≤ 2 ^ 20) }
     ensures long { IfSome (F.bytes files.old name.now) (λ all. IsErrOf result ReadAllFault.TooLong → 2 ^ 20 < length all) }

@@ -1,4 +1,4 @@
-use Rattle.std.proofs.Common.{arith, length-drop, length-take}
+use Rattle.std.proofs.Common.{arith, length-drop}
 use Rattle.isel_cmd.proofs.Told.{told_after, rest_from}
 use Rattle.isel_cmd.proofs.outside.writing.put_all.Goals as goal
 
