@@ -1,3 +1,4 @@
 pub mod Told
 pub mod Joined
 pub mod AnswersText
+pub mod Compared

@@ -1,3 +1,6 @@
 pub mod Outside
 pub mod Fakes
 pub mod Text
+pub mod Words
+pub mod Command
+pub mod Program

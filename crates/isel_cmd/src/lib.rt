@@ -3,3 +3,6 @@
 
 pub mod outside;
 mod text;
+mod words;
+
+pub use words::{Command, parse};
