@@ -1,6 +1,5 @@
 -- What is known of a well-sorted term: its sort has a width from 1 to 64, and its value is of its sort.
-use Rattle.std.proofs.Common.{◌≡◌, ℕ, zero, suc, ◌+◌, ◌-◌, ◌^◌, ◌%◌, ◌<◌, ◌≤◌, Bool, true, false, cond, ◌&&◌, nat_le, nat_lt, eqb, List, [], ◌∷◌, length, slice_get, unwrap_or, Option, None, Some, option_and_then, refl, sym, ap, ◌∙◌, subst, arith}
-use Rattle.std.proofs.lemmas.Bool.{false≢true}
+use Rattle.std.proofs.Common.{◌≡◌, ℕ, ◌^◌, ◌<◌, ◌≤◌, Bool, true, false, cond, ◌&&◌, nat_lt, eqb, List, [], ◌∷◌, length, slice_get, unwrap_or, Option, None, Some, option_and_then, refl, sym, ap, ◌∙◌, subst, arith}
 use Rattle.std.proofs.lemmas.Bool.Decides.{Decides-eqb, nat_tests}
 use Rattle.std.proofs.lemmas.Nat.{pow_pos, mod_below}
 use Rattle.std.proofs.lemmas.Option.{same_Some}
@@ -13,7 +12,7 @@ use Rattle.bv_terms.specs.declared.value.Sort.TheVariants as sort
 use Rattle.bv_terms.specs.declared.value.Value.{Value}
 use Rattle.bv_terms.specs.declared.value.Value.TheVariants as val
 use Rattle.bv_terms.specs.Term.{Term, Operands, Apply, End, Then, bits, op_value, value, values}
-use Rattle.bv_terms.specs.Sorts.{HasSort, HaveSorts, arity, is_width, is_indexed, is_bits, same_sort, misfit, fault_of, refusal, result_sort, op_sort, sort_unless, sort_of, sorts_of, InputsFit, AllInputsFit}
+use Rattle.bv_terms.specs.Sorts.{HasSort, HaveSorts, arity, is_width, is_indexed, misfit, fault_of, refusal, result_sort, op_sort, sort_unless, sort_of, sorts_of, InputsFit, AllInputsFit}
 
 -- an operation may stand over arguments of these sorts
 pub record IsFitting (o : Op) (ss : List Sort) : Type 0 where
@@ -112,6 +111,7 @@ result_sort-sized op.BvSub (s ∷ ss) f h = h.0
 
 mutual
   unfolding sort_of
+
   pub sort_of-sized : (t : Term) (s : Sort) → sort_of t ≡ Some s → IsSized s
   sort_of-sized (Apply o ts) s h =
       let sorted = IsSorted-of o ts s h in
@@ -265,6 +265,7 @@ InputsFit-parts inputs op.BvSub ts ss e f h = (tt, h)
 -- a well-sorted term has a value of its sort, where its inputs have values of theirs
 mutual
   unfolding sort_of value InputsFit
+
   pub value-sorted : (inputs : List Value) (t : Term) (s : Sort) → sort_of t ≡ Some s → InputsFit inputs t → HasSort s (value inputs t)
   value-sorted inputs (Apply o ts) s h i =
       let sorted = IsSorted-of o ts s h in
