@@ -12,7 +12,7 @@ use Rattle.bv_terms.specs.declared.value.Sort.TheVariants as sort
 use Rattle.bv_terms.specs.declared.value.Value.{Value}
 use Rattle.bv_terms.specs.declared.value.Value.TheVariants as val
 use Rattle.bv_terms.specs.Term.{Term, Operands, Apply, End, Then, bits, op_value, value, values}
-use Rattle.bv_terms.specs.Sorts.{HasSort, HaveSorts, arity, is_width, is_indexed, misfit, fault_of, refusal, result_sort, op_sort, sort_unless, sort_of, sorts_of, InputsFit, AllInputsFit}
+use Rattle.bv_terms.specs.Sorts.{HasSort, HaveSorts, arity, is_width, is_indexed, misfit, fault_of, refusal, result_sort, op_sort, sort_unless, sort_of, sorts_of, IsSized, AreSized, InputsFit, AllInputsFit}
 
 -- an operation may stand over arguments of these sorts
 pub record IsFitting (o : Op) (ss : List Sort) : Type 0 where
@@ -70,16 +70,6 @@ sorts_of-some t ts ss h = by (sort_of t) refl (sorts_of ts) refl h
     by None e q f h = cc
     by (Some s) e None f h = cc
     by (Some s) e (Some rest) f h = (s, rest, cc, e, f)
-
--- a width, where there is one, from 1 to 64
-abbrev pub IsSized : Sort → Type 0
-IsSized sort.Bool = Unit {0}
-IsSized (sort.Bits w) = (1 ≤ w) × (w ≤ 64)
-IsSized sort.Mem = Unit {0}
-
-abbrev pub AreSized : List Sort → Type 0
-AreSized [] = Unit {0}
-AreSized (s ∷ ss) = IsSized s × AreSized ss
 
 is_width-true : (w : ℕ) → is_width w ≡ true → (1 ≤ w) × (w ≤ 64)
 is_width-true w h = grind (arith, nat_tests)
