@@ -1,0 +1,48 @@
+-- Trees of words and lists, and the tokens that spell them.
+use Rattle.std.specs.Prelude.{ℕ, zero, ◌+◌, max, List, [], ◌∷◌, ◌++◌}
+use Rattle.sexp_read.specs.Token.{Token, Open, Close, Atom}
+
+-- A word, with the place of its first byte and its bytes; or a list, with the place of its `(`, the
+-- place after its `)`, and its members.
+mutual
+  pub data Tree : Type 0 where
+    Word : ℕ → List ℕ → Tree
+    Branch : ℕ → ℕ → Trees → Tree
+
+  pub data Trees : Type 0 where
+    End : Trees
+    Then : Tree → Trees → Trees
+
+-- the tokens, from left to right
+abbrev mutual
+  pub tree_tokens : Tree → List Token
+  tree_tokens (Word first bytes) = Atom first bytes ∷ []
+  tree_tokens (Branch from to members) = Open from ∷ (flatten members ++ Close to ∷ [])
+
+  pub flatten : Trees → List Token
+  flatten End = []
+  flatten (Then tree trees) = tree_tokens tree ++ flatten trees
+
+-- how many lists are open at once
+abbrev mutual
+  pub tree_depth : Tree → ℕ
+  tree_depth (Word first bytes) = 0
+  tree_depth (Branch from to members) = depth members + 1
+
+  pub depth : Trees → ℕ
+  depth End = 0
+  depth (Then tree trees) = max (tree_depth tree) (depth trees)
+
+-- how many words and lists there are, nested ones too
+abbrev mutual
+  pub tree_size : Tree → ℕ
+  tree_size (Word first bytes) = 1
+  tree_size (Branch from to members) = size members + 1
+
+  pub size : Trees → ℕ
+  size End = 0
+  size (Then tree trees) = tree_size tree + size trees
+
+-- how deep the lists of a text may be nested
+abbrev pub depth_limit : ℕ
+depth_limit = 256

@@ -1,0 +1,17 @@
+/// Why bytes are not a text of words and lists. Each fault names the place of a byte, counted from 0.
+///
+/// Of `NotText`, `Stray` and `Deep` the one at the least place is answered. `Unclosed` is answered
+/// exactly where none of them stands in the bytes and a list is open at their end.
+#[derive(Clone, Copy, Debug, PartialEq, Eq)]
+pub enum SexpFault {
+    /// A byte that is no printable ASCII character, tab, line feed or carriage return, also in a comment.
+    NotText(usize),
+    /// A list is open at the end: the place of the `(` of the outermost one.
+    Unclosed(usize),
+    /// A `)` with no list open.
+    Stray(usize),
+    /// A `(` with 256 lists open.
+    Deep(usize),
+    /// Memory ran out.
+    NoMemory,
+}
