@@ -1,8 +1,11 @@
 //! The lexical layer of every text: words and nested lists, each with its span.
 #![tactic(auto)]
 
+mod builder;
 mod fault;
 mod forest;
+mod read;
+mod token;
 
 pub use fault::SexpFault;
 pub use forest::{Body, Forest, Item};
