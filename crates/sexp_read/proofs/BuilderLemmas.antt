@@ -1,13 +1,12 @@
 -- What a builder holds after each of its steps.
-use Rattle.std.proofs.Common.{◌≡◌, ℕ, ◌+◌, ◌<◌, ◌≤◌, List, [], ◌∷◌, ◌++◌, length, refl, sym, ap, subst, ◌∙◌, arith, append_assoc, length-append, set, slice_index_or, slice_set, ◌-◌}
-use Rattle.std.proofs.lemmas.List.{append-nil, same_from_push, get_or_at, set_at, length_push}
-use Rattle.sexp_read.specs.declared.forest.Item.{Item}
+use Rattle.std.proofs.Common.{◌≡◌, ℕ, ◌+◌, ◌<◌, List, [], ◌∷◌, ◌++◌, length, refl, sym, ap, subst, ◌∙◌, arith, append_assoc, length-append, set, slice_index_or, slice_set, ◌-◌}
+use Rattle.std.proofs.lemmas.List.{same_from_push, get_or_at, set_at, length_push}
 use Rattle.sexp_read.specs.declared.builder.Builder.{Builder}
 use Rattle.sexp_read.specs.declared.builder.OpenList.{OpenList}
 use Rattle.sexp_read.specs.Token.{Token, Open, Close, Atom}
-use Rattle.sexp_read.specs.Tree.{Tree, Word, Branch, Trees, End, Then, depth_limit}
-use Rattle.sexp_read.specs.Forest.{atom, list, places, items_of}
-use Rattle.sexp_read.specs.Fault.{open_after, open_lists}
+use Rattle.sexp_read.specs.Tree.{Tree, Word, Branch, Trees, End, depth_limit}
+use Rattle.sexp_read.specs.Forest.{atom, list, places}
+use Rattle.sexp_read.specs.Fault.{open_lists}
 use Rattle.sexp_read.specs.Progress.{Partial, Root, Inside, spelled, count, items_in, open_in, outermost_in, IsFaultless, HasBuilt, AddsMember, with_member}
 use Rattle.sexp_read.proofs.PartialLemmas.{add, spelled-add, length-items_in, items_in-add, items_in-close, adds-member, open_places, open_lists-spelled, length-open_places, faultless-append}
 
@@ -64,8 +63,8 @@ has-open old new number place members no-members items is-count opened outermost
       faultless = faultless-append [] ts (Open place ∷ []) built.faultless (few, tt);
       items = items ∙ ap (λ is. is ++ atom place place ∷ []) built.items;
       opened = opened ∙ ap (λ ls. ls ++ record { number = number; from = place; members = members } ∷ []) built.opened
-        ∙ ap (λ (ms : List ℕ). open_in trees ++ record { number = number; from = place; members = ms } ∷ []) no-members
-        ∙ ap (λ (n : ℕ). open_in trees ++ record { number = n; from = place; members = [] } ∷ []) at;
+          ∙ ap (λ (ms : List ℕ). open_in trees ++ record { number = number; from = place; members = ms } ∷ []) no-members
+          ∙ ap (λ (n : ℕ). open_in trees ++ record { number = n; from = place; members = [] } ∷ []) at;
       outermost = outermost ∙ built.outermost;
     }
 
@@ -112,9 +111,9 @@ has-close old mid new front last to popped items opened outermost adds ts built 
       spelling = spelled-add outer tree ∙ sym (append_assoc (spelled outer) (Open place ∷ _) (Close to ∷ [])) ∙ ap (λ us. us ++ Close to ∷ []) spelling;
       faultless = faultless-append [] ts (Close to ∷ []) built.faultless (subst (λ opened. IsFaultless opened (Close to ∷ [])) open-now tt);
       items = adds.items ∙ items
-        ∙ ap (λ is. set is last.number (list last.from to last.members)) (built.items ∙ ap items_in whole)
-        ∙ ap (λ (l : OpenList). set (items_in (Inside outer place members)) l.number (list l.from to l.members)) inner.itself
-        ∙ items_in-close outer place to members;
+          ∙ ap (λ is. set is last.number (list last.from to last.members)) (built.items ∙ ap items_in whole)
+          ∙ ap (λ (l : OpenList). set (items_in (Inside outer place members)) l.number (list l.from to l.members)) inner.itself
+          ∙ items_in-close outer place to members;
       opened = after.0;
       outermost = after.1;
     }
@@ -128,6 +127,6 @@ add-inner opened n found members number len is-found is-members front last e =
     let before : length front ≡ n - 1 = omega (arith, length_push front last, ap length e) in
     let same : found ≡ last = is-found ∙ ap (λ ls. slice_index_or ls (n - 1) found) e ∙ get_or_at front last [] found (n - 1) before in
     let changed : record { number = found.number; from = found.from; members = members } ≡ with_member last number =
-      ap (λ (ms : List ℕ). record { number = found.number; from = found.from; members = ms }) is-members ∙ ap (λ (l : OpenList). with_member l number) same in
+    ap (λ (ms : List ℕ). record { number = found.number; from = found.from; members = ms }) is-members ∙ ap (λ (l : OpenList). with_member l number) same in
     ap (λ ls. slice_set ls (n - 1) (record { number = found.number; from = found.from; members = members })) e
     ∙ set_at front last [] _ (n - 1) before ∙ ap (λ (l : OpenList). front ++ l ∷ []) changed

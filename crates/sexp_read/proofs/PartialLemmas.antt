@@ -1,15 +1,13 @@
 -- What a builder's steps do to the trees that it holds.
-use Rattle.std.proofs.Common.{◌≡◌, ℕ, ◌+◌, ◌<◌, ◌≤◌, List, [], ◌∷◌, ◌++◌, length, refl, sym, ap, ◌∙◌, arith, append_assoc, length-append, add_assoc, zero-add, set}
+use Rattle.std.proofs.Common.{◌≡◌, ℕ, ◌+◌, List, [], ◌∷◌, ◌++◌, length, refl, sym, ap, ◌∙◌, arith, append_assoc, length-append, zero-add, set}
 use Rattle.std.proofs.lemmas.List.{append-nil, set_at}
-use Rattle.sexp_read.specs.declared.forest.Item.{Item}
 use Rattle.sexp_read.specs.declared.builder.Builder.{Builder}
-use Rattle.sexp_read.specs.declared.builder.OpenList.{OpenList}
 use Rattle.sexp_read.specs.Token.{Token, Open, Close, Atom}
-use Rattle.sexp_read.specs.Tree.{Tree, Word, Branch, Trees, End, Then, tree_tokens, flatten, tree_size, size, depth_limit}
+use Rattle.sexp_read.specs.Tree.{Tree, Word, Branch, Trees, End, Then, tree_tokens, flatten, size}
 use Rattle.sexp_read.specs.Forest.{atom, list, places, tree_items, items_of}
 use Rattle.sexp_read.specs.Fault.{open_after, open_lists}
-use Rattle.sexp_read.specs.Progress.{Partial, Root, Inside, spelled, count, items_in, open_in, outermost_in, IsFaultless, HasBuilt, AddsMember}
-use Rattle.sexp_read.proofs.TreeLemmas.{grown, flatten-grown, size-grown, places-grown, items_of-grown, length-items_of}
+use Rattle.sexp_read.specs.Progress.{Partial, Root, Inside, spelled, count, items_in, open_in, outermost_in, IsFaultless, AddsMember}
+use Rattle.sexp_read.proofs.TreeLemmas.{grown, flatten-grown, places-grown, items_of-grown, length-items_of}
 
 -- one more whole tree
 abbrev pub add : Partial → Tree → Partial
@@ -47,9 +45,10 @@ adds-member (Root trees) tree old new opened outermost adds =
     let after = adds.outer opened in
     (after.0, after.1 ∙ ap (λ ns. ns ++ size trees ∷ []) outermost ∙ sym (places-grown 0 trees tree ∙ ap (λ n. places 0 trees ++ n ∷ []) (zero-add (size trees))))
 adds-member (Inside outer place members) tree old new opened outermost adds =
-    let after = adds.inner _ _ opened in
-    (after.0 ∙ ap (λ (ns : List ℕ). open_in outer ++ record { number = count outer; from = place; members = ns } ∷ []) (sym (places-grown (count outer + 1) members tree)),
-     after.1 ∙ outermost)
+    let after = adds.inner _ _ opened in (
+      after.0 ∙ ap (λ (ns : List ℕ). open_in outer ++ record { number = count outer; from = place; members = ns } ∷ []) (sym (places-grown (count outer + 1) members tree)),
+      after.1 ∙ outermost,
+    )
 
 -- the lists that are open
 abbrev pub open_places : Partial → List ℕ

@@ -1,8 +1,6 @@
 -- Trees with one more at the end, and the lists that are made of trees.
-use Rattle.std.proofs.Common.{◌≡◌, ℕ, ◌+◌, ◌<◌, ◌≤◌, List, [], ◌∷◌, ◌++◌, length, refl, sym, ap, ◌∙◌, arith, append_assoc, length-append, add_assoc, zero-add}
+use Rattle.std.proofs.Common.{◌≡◌, ℕ, ◌+◌, ◌<◌, [], ◌∷◌, ◌++◌, length, refl, sym, ap, ◌∙◌, arith, append_assoc, length-append, add_assoc}
 use Rattle.std.proofs.lemmas.List.{append-nil}
-use Rattle.sexp_read.specs.declared.forest.Item.{Item}
-use Rattle.sexp_read.specs.Token.{Token, Open, Close, Atom}
 use Rattle.sexp_read.specs.Tree.{Tree, Word, Branch, Trees, End, Then, tree_tokens, flatten, tree_size, size}
 use Rattle.sexp_read.specs.Forest.{places, tree_items, items_of}
 
@@ -42,3 +40,7 @@ mutual
   length-items_of number (Then tree trees) =
       length-append (tree_items number tree) (items_of (number + tree_size tree) trees)
       ∙ omega (arith, length-tree_items number tree, length-items_of (number + tree_size tree) trees)
+
+pub tree_size-pos : (tree : Tree) → 0 < tree_size tree
+tree_size-pos (Word first bytes) = omega arith
+tree_size-pos (Branch from to members) = omega arith

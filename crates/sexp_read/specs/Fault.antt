@@ -1,5 +1,5 @@
 -- Which fault a text has: the first from the left, or else a list that is never closed.
-use Rattle.std.specs.Prelude.{◌≡◌, ℕ, ◌+◌, ◌≤◌, Bool, false, List, [], ◌∷◌, ◌++◌, length, Option, Some, slice_get, Result, Err, ◌⊎◌}
+use Rattle.std.specs.Prelude.{◌≡◌, ℕ, ◌+◌, ◌≤◌, false, List, [], ◌∷◌, ◌++◌, length, Some, slice_get, Result, Err, ◌⊎◌}
 use Rattle.sexp_read.specs.declared.fault.SexpFault.{SexpFault}
 use Rattle.sexp_read.specs.declared.fault.SexpFault.TheVariants.{NotText, Unclosed, Stray, Deep, NoMemory}
 use Rattle.sexp_read.specs.Token.{is_text_byte, Token, Open, Close, Atom, tokens}

@@ -1,5 +1,5 @@
 -- How far a reader has come, for its own functions: the tokens so far as trees that grow.
-use Rattle.std.specs.Prelude.{◌≡◌, ◌≢◌, ℕ, ◌+◌, ◌<◌, ◌≤◌, true, List, [], ◌∷◌, ◌++◌, length, drop, slice_get, slice_range, Some}
+use Rattle.std.specs.Prelude.{◌≡◌, ℕ, ◌+◌, ◌<◌, true, List, [], ◌∷◌, ◌++◌, length, drop, slice_get, slice_range, Some}
 use Rattle.sexp_read.specs.declared.forest.Item.{Item}
 use Rattle.sexp_read.specs.declared.builder.Builder.{Builder}
 use Rattle.sexp_read.specs.declared.builder.OpenList.{OpenList}

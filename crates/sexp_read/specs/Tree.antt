@@ -1,5 +1,5 @@
 -- Trees of words and lists, and the tokens that spell them.
-use Rattle.std.specs.Prelude.{ℕ, zero, ◌+◌, max, List, [], ◌∷◌, ◌++◌}
+use Rattle.std.specs.Prelude.{ℕ, ◌+◌, max, List, [], ◌∷◌, ◌++◌}
 use Rattle.sexp_read.specs.Token.{Token, Open, Close, Atom}
 
 -- A word, with the place of its first byte and its bytes; or a list, with the place of its `(`, the

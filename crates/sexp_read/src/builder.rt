@@ -4,11 +4,10 @@ ghost use Rattle.sexp_read.specs.Tree.{depth_limit};
 ghost use Rattle.sexp_read.specs.Fault.{open_lists};
 ghost use Rattle.sexp_read.specs.Progress.{HasBuilt, IsBuilt, AddsMember};
 
-use lists::Listed;
-use std::alloc::Global;
-
 use crate::fault::SexpFault;
 use crate::forest::{Body, Item};
+use lists::Listed;
+use std::alloc::Global;
 
 /// How many lists may be open at once.
 const DEPTH_LIMIT: usize = 256;
@@ -74,7 +73,7 @@ impl Builder {
             HasBuilt tokens self.old → HasBuilt (tokens ++ Open place ∷ []) self.new) }
         ensures err { IfErr result (λ fault. (fault ≡ SexpFault.NoMemory)
             ⊎ ((fault ≡ SexpFault.Deep place) × ((tokens : List Token) →
-                HasBuilt tokens self.old → depth_limit ≤ length (open_lists tokens)))) }
+            HasBuilt tokens self.old → depth_limit ≤ length (open_lists tokens)))) }
     {
         if self.unclosed.len() >= DEPTH_LIMIT {
             return Err(SexpFault::Deep(place));
@@ -101,13 +100,15 @@ impl Builder {
             HasBuilt tokens self.old → HasBuilt (tokens ++ Close (place + 1) ∷ []) self.new) }
         ensures err { IfErr result (λ fault. (fault ≡ SexpFault.NoMemory)
             ⊎ ((fault ≡ SexpFault.Stray place) × ((tokens : List Token) →
-                HasBuilt tokens self.old → open_lists tokens ≡ []))) }
+            HasBuilt tokens self.old → open_lists tokens ≡ []))) }
     {
-        let Some(OpenList {
-            number,
-            from,
-            members,
-        }) = self.unclosed.pop()
+        let Some(
+            OpenList {
+                number,
+                from,
+                members,
+            },
+        ) = self.unclosed.pop()
         else {
             return Err(SexpFault::Stray(place));
         };

@@ -1,6 +1,6 @@
 ghost use Rattle.std.specs.Prelude.{◌≡◌, ℕ, ◌<◌, ◌≤◌, ◌↔◌, List, Some, length, IsTrue, IfSome, option_map};
 ghost use Rattle.std.specs.List.{All};
-ghost use Rattle.sexp_read.specs.Forest.{IsReading, text_at, children_at, head_at};
+ghost use Rattle.sexp_read.specs.Forest.{IsReading, text_at, atom_at, children_at, head_at};
 
 use lists::Listed;
 
@@ -39,15 +39,26 @@ impl Forest {
         self.outermost.as_slice()
     }
 
+    /// The bytes of an item's span: of a list, those from its `(` to its `)`.
+    pub fn text<'a>(&self, bytes: &'a [u8], item: usize) -> &'a [u8]
+        requires reading { IsReading bytes.now self.now }
+        requires item_in { item < length self.now.items }
+        ensures { text_at bytes.now self.now.items item ≡ Some result.now }
+    {
+        let found = &self.items.as_slice()[item];
+        let from = found.from;
+        let to = found.to;
+        &bytes[from..to]
+    }
+
     /// The bytes of an atom, or `None` for a list.
     pub fn atom<'a>(&self, bytes: &'a [u8], item: usize) -> Option<&'a [u8]>
         requires reading { IsReading bytes.now self.now }
         requires item_in { item < length self.now.items }
-        ensures { option_map (λ text. text.now) result ≡ text_at bytes.now self.now.items item }
+        ensures { option_map (λ text. text.now) result ≡ atom_at bytes.now self.now.items item }
     {
-        let Item { from, to, body } = &self.items.as_slice()[item];
-        match body {
-            Body::Atom => Some(&bytes[*from..*to]),
+        match self.items.as_slice()[item].body {
+            Body::Atom => Some(self.text(bytes, item)),
             Body::List { .. } => None,
         }
     }
@@ -72,11 +83,10 @@ impl Forest {
         requires item_in { item < length self.now.items }
         ensures { IsTrue result ↔ (head_at bytes.now self.now.items item ≡ Some word.now) }
     {
-        let first = match self.children(item) {
-            Some(children) => children.first(),
-            None => None,
+        let Some(children) = self.children(item) else {
+            return false;
         };
-        match first {
+        match children.first() {
             Some(head) => self.atom(bytes, *head) == Some(word),
             None => false,
         }

@@ -3,12 +3,11 @@ ghost use Rattle.sexp_read.specs.Forest.{IsReading};
 ghost use Rattle.sexp_read.specs.Fault.{IsFault, IsButForMemory};
 ghost use Rattle.sexp_read.specs.Progress.{HasRead};
 
-use std::alloc::Global;
-
 use crate::builder::Builder;
 use crate::fault::SexpFault;
 use crate::forest::Forest;
 use crate::token::{Class, class_of, is_text_byte};
+use std::alloc::Global;
 
 /// What the bytes so far leave open beside lists.
 #[derive(Clone, Copy, Debug)]

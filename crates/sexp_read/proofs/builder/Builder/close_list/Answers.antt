@@ -1,6 +1,5 @@
-use Rattle.std.proofs.Common.{◌+◌, refl, sym, ◌∙◌, inr, arith, ap}
+use Rattle.std.proofs.Common.{◌+◌, refl, sym, ◌∙◌, inr, arith}
 use Rattle.std.proofs.lemmas.Result.{on_ok_weaker}
-use Rattle.std.proofs.lemmas.List.{append-nil}
 use Rattle.sexp_read.proofs.BuilderLemmas.{has-close, number-in, nothing-open}
 use Rattle.sexp_read.proofs.builder.Builder.close_list.Goals as goal
 
