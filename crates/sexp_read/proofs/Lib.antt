@@ -4,3 +4,5 @@ pub mod BuilderLemmas
 pub mod ListLemmas
 pub mod SpanLemmas
 pub mod ForestLemmas
+pub mod FaultLemmas
+pub mod ReaderLemmas

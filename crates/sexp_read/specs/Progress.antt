@@ -1,14 +1,19 @@
 -- How far a reader has come, for its own functions: the tokens so far as trees that grow.
 use Rattle.std.specs.Prelude.{◌≡◌, ℕ, ◌+◌, ◌<◌, true, List, [], ◌∷◌, ◌++◌, length, drop, slice_get, slice_range, Some}
 use Rattle.sexp_read.specs.declared.forest.Item.{Item}
+use Rattle.sexp_read.specs.declared.forest.Forest.{Forest}
+use Rattle.sexp_read.specs.declared.fault.SexpFault.{SexpFault}
+use Rattle.sexp_read.specs.declared.fault.SexpFault.TheVariants.{NotText, Unclosed, Stray, Deep, NoMemory}
+use Rattle.sexp_read.specs.declared.token.Class.{Class}
 use Rattle.sexp_read.specs.declared.builder.Builder.{Builder}
 use Rattle.sexp_read.specs.declared.builder.OpenList.{OpenList}
-use Rattle.sexp_read.specs.declared.read.Reader.{Reader}
-use Rattle.sexp_read.specs.declared.read.Pending.{Pending}
-use Rattle.sexp_read.specs.declared.read.Pending.TheVariants as pending
-use Rattle.sexp_read.specs.Token.{is_text_byte, Token, Open, Close, Atom, Mode, Between, Comment, Within, tokens, tokens_from}
+use Rattle.sexp_read.specs.declared.reader.Reader.{Reader}
+use Rattle.sexp_read.specs.declared.reader.Pending.{Pending}
+use Rattle.sexp_read.specs.declared.reader.Pending.TheVariants as pending
+use Rattle.sexp_read.specs.Token.{is_text_byte, class_of, Token, Open, Close, Atom, Mode, Between, Comment, Within, tokens, tokens_from}
 use Rattle.sexp_read.specs.Tree.{Trees, flatten, size, depth_limit}
 use Rattle.sexp_read.specs.Forest.{atom, places, items_of}
+use Rattle.sexp_read.specs.Fault.{open_lists}
 
 -- The trees so far: the outermost ones, and within them a list that is open, with its place and the
 -- members that are whole.
@@ -84,4 +89,23 @@ pub record HasRead (bytes : List ℕ) (place : ℕ) (reader : Reader) : Type 0 w
   pub built : HasBuilt ts reader.builder
   pub spelling : tokens bytes ≡ ts ++ tokens_from (mode_of bytes place reader.pending) place (drop place bytes)
   pub began : BeganBefore place reader.pending
-  pub text : (k : ℕ) (b : ℕ) → k < place → slice_get bytes k ≡ Some b → is_text_byte b ≡ true
+  pub text : (k b : ℕ) → k < place → slice_get bytes k ≡ Some b → is_text_byte b ≡ true
+
+-- a byte of a text stands at a place, and does this outside a comment
+pub record HasClass (bytes : List ℕ) (place : ℕ) (class : Class) : Type 0 where
+  pub byte : ℕ
+  pub here : slice_get bytes place ≡ Some byte
+  pub of_class : class_of byte ≡ class
+  pub text : is_text_byte byte ≡ true
+
+-- a forest holds the trees that these tokens spell
+pub record Holds (ts : List Token) (forest : Forest) : Type 0 where
+  pub trees : Trees
+  pub spelling : flatten trees ≡ ts
+  pub items : forest.items ≡ items_of 0 trees
+  pub outermost : forest.outermost ≡ places 0 trees
+
+-- a list is open after these tokens, and the fault names the outermost one
+abbrev pub LeavesOpen : List Token → SexpFault → Type 0
+LeavesOpen ts (Unclosed place) = (inner : List ℕ) × (open_lists ts ≡ inner ++ place ∷ [])
+LeavesOpen ts _ = ⊥

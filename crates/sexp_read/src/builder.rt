@@ -1,11 +1,11 @@
-ghost use Rattle.std.specs.Prelude.{◌≡◌, ℕ, ◌+◌, ◌^◌, ◌<◌, ◌≤◌, ◌⊎◌, List, [], ◌∷◌, ◌++◌, length, OnOk, IfErr, IsOkUnless};
+ghost use Rattle.std.specs.Prelude.{◌≡◌, ℕ, ◌+◌, ◌^◌, ◌<◌, ◌≤◌, ◌⊎◌, List, [], ◌∷◌, ◌++◌, length, OnOk, IfOk, IfErr, IsOkUnless};
 ghost use Rattle.sexp_read.specs.Token.{Token, Open, Close, Atom};
 ghost use Rattle.sexp_read.specs.Tree.{depth_limit};
 ghost use Rattle.sexp_read.specs.Fault.{open_lists};
-ghost use Rattle.sexp_read.specs.Progress.{HasBuilt, IsBuilt, AddsMember};
+ghost use Rattle.sexp_read.specs.Progress.{HasBuilt, IsBuilt, AddsMember, Holds, LeavesOpen};
 
 use crate::fault::SexpFault;
-use crate::forest::{Body, Item};
+use crate::forest::{Body, Forest, Item};
 use lists::Listed;
 use std::alloc::Global;
 
@@ -118,5 +118,23 @@ impl Builder {
             body: Body::List { children: members },
         };
         self.add_member(number)
+    }
+    /// The forest of what was built, or the fault that a list is open.
+    pub fn finish(self) -> Result<Forest, SexpFault>
+        ensures ok { IfOk result (λ forest. (tokens : List Token) → HasBuilt tokens self → Holds tokens forest) }
+        ensures err { IfErr result (λ fault. (tokens : List Token) → HasBuilt tokens self → LeavesOpen tokens fault) }
+    {
+        let Builder {
+            items,
+            unclosed,
+            outermost,
+        } = self;
+        match unclosed.first() {
+            Some(list) => Err(SexpFault::Unclosed(list.from)),
+            None => Ok(Forest {
+                items: Listed::from_vec(items),
+                outermost,
+            }),
+        }
     }
 }

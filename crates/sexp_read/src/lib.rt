@@ -4,8 +4,9 @@
 mod builder;
 mod fault;
 mod forest;
-mod read;
+mod reader;
 mod token;
 
 pub use fault::SexpFault;
 pub use forest::{Body, Forest, Item};
+pub use reader::{one_fault, one_reading, read};
