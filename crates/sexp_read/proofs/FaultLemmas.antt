@@ -1,18 +1,18 @@
 -- Which texts have a fault, and that it is one fault.
-use Rattle.std.proofs.Common.{◌≡◌, ℕ, zero, suc, ◌+◌, ◌-◌, ◌<◌, ◌≤◌, ◌⊎◌, max, Bool, true, false, List, [], ◌∷◌, ◌++◌, length, drop, slice_get, Some, refl, sym, ap, subst, ◌∙◌, inl, inr, arith, append_assoc, length-append}
+use Rattle.std.proofs.Common.{◌≡◌, ℕ, ◌+◌, ◌-◌, ◌<◌, ◌≤◌, ◌⊎◌, true, false, List, [], ◌∷◌, ◌++◌, length, drop, slice_get, Some, refl, sym, ap, subst, ◌∙◌, inl, inr, arith, append_assoc, length-append}
 use Rattle.std.specs.Prelude.{IsTrue}
 use Rattle.std.specs.List.{AllByRecursion, list_all}
 use Rattle.std.proofs.lemmas.List.{append-nil, same_from_push}
 use Rattle.std.proofs.lemmas.Bool.{cases_lt, false≢true}
 use Rattle.std.proofs.lemmas.List.Sums.{AllPass-from_list_all}
-use Rattle.std.proofs.lemmas.Option.{slice_get_within, slice_get-get_or, get_or_from_slice_get}
+use Rattle.std.proofs.lemmas.Option.{slice_get_within, get_or_from_slice_get}
 use Rattle.sexp_read.specs.declared.fault.SexpFault.{SexpFault}
 use Rattle.sexp_read.specs.declared.fault.SexpFault.TheVariants.{NotText, Unclosed, Stray, Deep, NoMemory}
 use Rattle.sexp_read.specs.declared.forest.Item.{Item}
 use Rattle.sexp_read.specs.declared.forest.Forest.{Forest}
 use Rattle.sexp_read.specs.Token.{is_text_byte, Token, Open, Close, Atom, Mode, tokens, tokens_from}
 use Rattle.sexp_read.specs.Tree.{Tree, Word, Branch, Trees, End, Then, tree_tokens, flatten, tree_depth, depth, depth_limit}
-use Rattle.sexp_read.specs.Forest.{IsForest, IsReading, items_of, places}
+use Rattle.sexp_read.specs.Forest.{IsReading, items_of, places}
 use Rattle.sexp_read.specs.Fault.{open_after, open_lists, HasToken, StandsIn, place_of, IsFault}
 use Rattle.sexp_read.specs.Progress.{IsFaultless}
 use Rattle.sexp_read.proofs.PartialLemmas.{open_lists-flatten}

@@ -1,11 +1,11 @@
 -- What a reader has read after each byte.
-use Rattle.std.proofs.Common.{◌≡◌, ◌≢◌, ℕ, zero, suc, ◌+◌, ◌-◌, ◌<◌, ◌≤◌, ◌⊎◌, Bool, true, false, List, [], ◌∷◌, ◌++◌, length, get_or, take, drop, slice_get, slice_range, Some, None, Result, Ok, Err, refl, sym, ap, subst, ◌∙◌, inl, inr, arith, append_assoc, length-append, IfOk, IfErr}
+use Rattle.std.proofs.Common.{◌≡◌, ◌≢◌, ℕ, ◌+◌, ◌-◌, ◌<◌, ◌≤◌, ◌⊎◌, true, false, List, [], ◌∷◌, ◌++◌, length, get_or, take, drop, slice_get, slice_range, Some, Result, Ok, Err, refl, sym, ap, subst, ◌∙◌, inl, inr, arith, append_assoc, IfOk, IfErr}
 use Rattle.std.specs.Prelude.{IsTrue}
 use Rattle.std.specs.List.{list_all}
-use Rattle.std.proofs.lemmas.List.{append-nil, drop_more, drop_all, length_push, length-drop, length-take-le}
+use Rattle.std.proofs.lemmas.List.{append-nil, drop_more, drop_all, length-drop, length-take-le}
 use Rattle.std.proofs.lemmas.List.Sums.{list_all-from_AllPass}
-use Rattle.std.proofs.lemmas.Bool.{cases_lt, false≢true}
-use Rattle.std.proofs.lemmas.Option.{slice_get_within, slice_get_past, slice_get-get_or, get_or_from_slice_get}
+use Rattle.std.proofs.lemmas.Bool.{cases_lt}
+use Rattle.std.proofs.lemmas.Option.{slice_get_within, slice_get-get_or, get_or_from_slice_get}
 use Rattle.sexp_read.specs.declared.fault.SexpFault.{SexpFault}
 use Rattle.sexp_read.specs.declared.fault.SexpFault.TheVariants.{NotText, Unclosed, Stray, Deep, NoMemory}
 use Rattle.sexp_read.specs.declared.forest.Forest.{Forest}
@@ -16,11 +16,11 @@ use Rattle.sexp_read.specs.declared.reader.Pending.TheVariants as pending
 use Rattle.sexp_read.specs.declared.token.Class.{Class}
 use Rattle.sexp_read.specs.declared.token.Class.TheVariants.{Blank, LineFeed, Semicolon, Left, Right, Letter}
 use Rattle.sexp_read.specs.Token.{is_text_byte, class_of, Token, Open, Close, Atom, Mode, Between, Comment, Within, mode_after, word_in, tokens_at, tokens, tokens_from}
-use Rattle.sexp_read.specs.Tree.{Trees, flatten, depth, depth_limit}
-use Rattle.sexp_read.specs.Forest.{IsForest, IsReading}
+use Rattle.sexp_read.specs.Tree.{flatten, depth_limit}
+use Rattle.sexp_read.specs.Forest.{IsReading}
 use Rattle.sexp_read.specs.Fault.{open_lists, HasToken, StandsIn, place_of, IsFault, IsButForMemory}
 use Rattle.sexp_read.specs.Progress.{IsFaultless, HasBuilt, mode_of, BeganBefore, HasRead, HasClass, ReadsOn, Refuses, Holds, LeavesOpen}
-use Rattle.sexp_read.proofs.ListLemmas.{drop-head, slice_range-more}
+use Rattle.sexp_read.proofs.ListLemmas.{slice_range-more}
 use Rattle.sexp_read.proofs.FaultLemmas.{none-earlier, none-stands, trees-shallow, reading-unique, reading-faultless, fault-unique}
 
 -- the rest of the bytes begins with the byte at the place

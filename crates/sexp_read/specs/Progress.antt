@@ -3,7 +3,7 @@ use Rattle.std.specs.Prelude.{◌≡◌, ℕ, ◌+◌, ◌<◌, true, List, [], 
 use Rattle.sexp_read.specs.declared.forest.Item.{Item}
 use Rattle.sexp_read.specs.declared.forest.Forest.{Forest}
 use Rattle.sexp_read.specs.declared.fault.SexpFault.{SexpFault}
-use Rattle.sexp_read.specs.declared.fault.SexpFault.TheVariants.{NotText, Unclosed, Stray, Deep, NoMemory}
+use Rattle.sexp_read.specs.declared.fault.SexpFault.TheVariants.{Unclosed, NoMemory}
 use Rattle.sexp_read.specs.declared.token.Class.{Class}
 use Rattle.sexp_read.specs.declared.builder.Builder.{Builder}
 use Rattle.sexp_read.specs.declared.builder.OpenList.{OpenList}

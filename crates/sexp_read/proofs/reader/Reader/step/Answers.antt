@@ -1,4 +1,4 @@
-use Rattle.std.proofs.Common.{◌<◌, length, sym, inl, inr, ◌∙◌}
+use Rattle.std.proofs.Common.{sym, inl, inr, ◌∙◌}
 use Rattle.std.proofs.lemmas.Result.{on_ok_weaker, IfErr-weaker}
 use Rattle.std.proofs.lemmas.Option.{slice_get-get_or}
 use Rattle.sexp_read.proofs.ReaderLemmas.{is-not-text, class-at}

@@ -1,4 +1,4 @@
-use Rattle.std.proofs.Common.{refl, inl, inr}
+use Rattle.std.proofs.Common.{inl, inr}
 use Rattle.std.proofs.lemmas.Result.{on_ok_weaker, IfErr-weaker}
 use Rattle.sexp_read.proofs.ReaderLemmas.{reads-letter}
 use Rattle.sexp_read.proofs.reader.Reader.step_word.Goals as goal
