@@ -1,3 +1,5 @@
 pub mod Term
 pub mod Sorts
 pub mod Table
+pub mod Node
+pub mod Eval

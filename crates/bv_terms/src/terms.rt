@@ -1,34 +1,36 @@
-ghost use Rattle.std.specs.Prelude.{◌≡◌, ◌≤◌, []};
+ghost use Rattle.std.specs.Prelude.{◌≡◌, ◌<◌, ◌≤◌, [], length, slice_get, None, Some, All, Contains, IfOk, IfErr, OnOk, OnErr, MatchOption, MatchResult};
+ghost use Rattle.bv_terms.specs.declared.value.Sort.{Sort};
+ghost use Rattle.bv_terms.specs.Term.{Apply, value};
+ghost use Rattle.bv_terms.specs.Sorts.{sort_of, HasSort, InputsFit};
+ghost use Rattle.bv_terms.specs.Table.{operands, terms_of, term_at, make_refusal, table_with, IsTable, Makes};
+ghost use Rattle.bv_terms.specs.Node.{entry_of, node_of};
 
-use crate::op::{Op, TermId};
-use crate::value::Sort;
+use crate::eval::apply;
+use crate::node::Node;
+use crate::op::{MakeFault, Op, TermId};
+use crate::value::{Env, Sort, Value};
 use indexmap::IndexMap;
 use std::alloc::Global;
 use std::marker::Model;
-
-/// A node as it is looked up: an operation over earlier nodes.
-#[derive(Debug, Drop, PartialEq, Eq, Hash)]
-struct Node {
-    op: Op,
-    args: Vec<TermId>,
-}
 
 /// A table of nodes. Each node is an operation over earlier nodes, and no two nodes are equal.
 /// Contracts see it as the width of a pointer in bits and the list of the nodes.
 #[derive(Debug, Drop)]
 pub struct Terms {
     pointer: u8,
-    /// the sort of each node
+    /// The nodes, each with its sort.
     nodes: IndexMap<Node, Sort>,
 }
 
 impl Model for Terms {
-    ghost use Rattle.std.specs.Prelude.{map};
     ghost use Rattle.bv_terms.specs.Table.{Table};
+    ghost use Rattle.bv_terms.specs.Node.{table_of, IsKept};
 
     ghost Value = { Table };
 
-    ghost view = { λ t. record { pointer = t.pointer; nodes = map (λ e. record { op = e.0.op; args = e.0.args.items }) t.nodes.entries } };
+    ghost view = { λ t. table_of t.pointer t.nodes.entries };
+
+    ghost invariant = { λ t. IsKept t.pointer t.nodes.entries };
 }
 
 impl Terms {
@@ -42,5 +44,116 @@ impl Terms {
             pointer,
             nodes: IndexMap::new(alloc),
         }
+    }
+
+    /// The width of a pointer in bits.
+    pub fn pointer(&self) -> u8
+        ensures { result ≡ self.now.pointer }
+    {
+        self.pointer
+    }
+
+    /// The number of nodes.
+    pub fn len(&self) -> usize
+        ensures len { result ≡ length self.now.nodes }
+        ensures table { IsTable self.now }
+    {
+        self.nodes.len()
+    }
+
+    /// The sort of a node's term.
+    pub fn sort(&self, at: TermId) -> Sort
+        requires { at.0 < length self.now.nodes }
+        ensures { sort_of (term_at self.now at) ≡ Some result }
+    {
+        let (_, sort) = self.nodes.get_index(at.0).unwrap();
+        *sort
+    }
+
+    /// The operation of a node and its arguments, which are earlier nodes.
+    pub fn node(&self, at: TermId) -> (&Op, &[TermId])
+        requires { at.0 < length self.now.nodes }
+        ensures { slice_get self.now.nodes at.0 ≡ Some (record { op = result.0.now; args = result.1.now }) }
+    {
+        let (node, _) = self.nodes.get_index(at.0).unwrap();
+        (&node.op, node.args())
+    }
+
+    /// The node of an operation over nodes: the one that is there, or else one added at the end.
+    ///
+    /// The first fault counts: `Arity`, `Sorts`, `Index`. After a fault the table is as it was.
+    pub fn make(&mut self, op: Op, args: &[TermId]) -> Result<TermId, MakeFault>
+        requires { All (λ a. a.0 < length self.old.nodes) args.now }
+        ensures refused { MatchOption (make_refusal self.old op args.now)
+            (IfErr result (λ f. f ≡ MakeFault.NoMemory)) (λ f. result ≡ Err f) }
+        ensures made { IfOk result (Makes self.old (record { op = op; args = args.now }) self.new) }
+        ensures err { OnErr result (self.new ≡ self.old) }
+
+        // What callers use of it.
+        ensures table { IsTable self.new }
+        ensures longer { length self.old.nodes ≤ length self.new.nodes }
+        ensures within { IfOk result (λ id. id.0 < length self.new.nodes) }
+        ensures kept { (at : TermId) → at.0 < length self.old.nodes → term_at self.new at ≡ term_at self.old at }
+        ensures term { IfOk result (λ id. term_at self.new id ≡ Apply op (operands (terms_of self.old) args.now)) }
+        ensures sort { IfOk result (λ id. sort_of (term_at self.new id) ≡ sort_of (Apply op (operands (terms_of self.old) args.now))) }
+    {
+        let sort = self.sort_over(op, args)?;
+        let node = Node::new(op, args);
+        match self.nodes.get_index_of(&node) {
+            Some(place) => Ok(TermId(place)),
+            None => self.add(node, sort),
+        }
+    }
+
+    /// The value of a node's term, where the inputs have the environment's values. It takes no
+    /// memory: `room` is filled from the front with the values of the nodes up to this one.
+    pub fn eval(&self, at: TermId, env: &Env, room: &mut [Value]) -> Value
+        requires there { at.0 < length self.now.nodes }
+        requires inputs { InputsFit env.now.values (term_at self.now at) }
+        requires room { length self.now.nodes ≤ length room.old }
+        ensures value { result ≡ value env.now.values (term_at self.now at) }
+        ensures sorted { (s : Sort) → sort_of (term_at self.now at) ≡ Some s → HasSort s result }
+    {
+        let inputs = env.values.as_slice();
+        let nodes = &self.nodes;
+        for place in 0..at.0 + 1 {
+            let (node, _) = nodes.get_index(place).unwrap();
+            let value = apply(&node.op, node.args(), inputs, room);
+            room[place] = value;
+        }
+        room[at.0]
+    }
+
+    /// The sort of an operation over nodes, or why it cannot stand over them.
+    fn sort_over(&self, op: Op, args: &[TermId]) -> Result<Sort, MakeFault>
+        requires table { IsTable self.now }
+        requires args { All (λ a. a.0 < length self.now.nodes) args.now }
+        ensures fault { MatchResult result
+            (λ _. make_refusal self.now op args.now ≡ None) (λ f. make_refusal self.now op args.now ≡ Some f) }
+        ensures sort { IfOk result (λ s. sort_of (Apply op (operands (terms_of self.now) args.now)) ≡ Some s) }
+    {
+        match *args {
+            [] => op.sort_over(&[]),
+            [only] => op.sort_over(&[self.sort(only)]),
+            [first, second] => op.sort_over(&[self.sort(first), self.sort(second)]),
+            _ => Err(MakeFault::Arity),
+        }
+    }
+
+    /// Adds a node that is not there. An `Err` is want of memory; it leaves the table as it was.
+    fn add(&mut self, node: Node, sort: Sort) -> Result<TermId, MakeFault>
+        requires padded { node ≡ node_of (entry_of node) }
+        requires earlier { All (λ a. a.0 < length self.old.nodes) (entry_of node).args }
+        requires sorted { sort_of (Apply node.op (operands (terms_of self.old) (entry_of node).args)) ≡ Some sort }
+        requires new { ¬ Contains self.old.nodes (entry_of node) }
+        ensures place { IfOk result (λ id. id.0 ≡ length self.old.nodes) }
+        ensures added { OnOk result (self.new ≡ table_with self.old (entry_of node)) }
+        ensures err { OnErr result (self.new ≡ self.old) }
+        ensures memory { IfErr result (λ f. f ≡ MakeFault.NoMemory) }
+        ensures table { IsTable self.new }
+    {
+        let place = self.nodes.len();
+        self.nodes.insert(node, sort)?;
+        Ok(TermId(place))
     }
 }
