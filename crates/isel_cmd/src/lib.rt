@@ -1,2 +1,6 @@
 //! The commands of the program.
 #![tactic(auto)]
+
+mod enumeration;
+
+pub use enumeration::search;
