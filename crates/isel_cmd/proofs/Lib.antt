@@ -1,3 +1,7 @@
+pub mod Told
+pub mod Joined
+pub mod AnswersText
+pub mod Compared
 pub mod ListLemmas
 pub mod ReadLemmas
 pub mod InputLemmas

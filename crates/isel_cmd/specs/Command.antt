@@ -1,0 +1,8 @@
+-- Which command the words are.
+use Rattle.std.specs.Prelude.{ℕ, List}
+use Rattle.isel_cmd.specs.Words.{IsSynth}
+use Rattle.isel_cmd.specs.declared.words.Command.{Command}
+use Rattle.isel_cmd.specs.declared.words.Command.TheVariants.{Synth}
+
+abbrev pub IsCommand : List (List ℕ) → Command → Type 0
+IsCommand words (Synth file bound) = IsSynth words file.now bound

@@ -1,0 +1,55 @@
+ghost use Rattle.std.specs.Prelude.{◌≡◌, ℕ, List, map, MatchOption, IfSome, IfNone, IsTrue, ◌↔◌, ◌≤◌};
+ghost use Rattle.std.specs.String.{string_bytes};
+ghost use Rattle.std.specs.Fmt.{decimal};
+ghost use Rattle.isel_cmd.specs.Words.{IsFileName, IsSynth, HasNoForm};
+ghost use Rattle.isel_cmd.specs.Command.{IsCommand};
+
+/// What the words ask for.
+#[derive(Clone, Copy, Debug)]
+pub enum Command<'a> {
+    /// To write the library of the file of that name, for patterns of at most `bound` operations.
+    Synth { file: &'a str, bound: u8 },
+}
+
+/// Whether a word may name a file: it is not empty and does not begin with a dash.
+fn is_file_name(word: &str) -> bool
+    ensures { IsTrue result ↔ IsFileName word.now }
+{
+    match word.as_bytes().first() {
+        Some(first) => *first != b'-',
+        None => false,
+    }
+}
+
+/// The bound that a word says.
+fn bound_of(word: &str) -> Option<u8>
+    ensures some { IfSome result (λ bound. (word.now ≡ decimal bound) × (bound ≤ 1)) }
+    ensures none { IfNone result ((bound : ℕ) → bound ≤ 1 → word.now ≡ decimal bound → ⊥) }
+{
+    match word {
+        "0" => Some(0),
+        "1" => Some(1),
+        _ => None,
+    }
+}
+
+/// The command that the words are, or `None` where they have no form.
+pub fn parse(words: &[String]) -> Option<Command<'_>>
+    ensures { MatchOption result (HasNoForm (map string_bytes words.now)) (IsCommand (map string_bytes words.now)) }
+{
+    let [command, file, flag, number] = words else {
+        return None;
+    };
+    let file = file.as_str();
+    if command.as_str() != "synth" {
+        return None;
+    }
+    if flag.as_str() != "--bound" {
+        return None;
+    }
+    if !is_file_name(file) {
+        return None;
+    }
+    let bound = bound_of(number.as_str())?;
+    Some(Command::Synth { file, bound })
+}
