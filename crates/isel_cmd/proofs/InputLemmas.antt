@@ -8,7 +8,7 @@ use Rattle.bv_terms.specs.declared.value.Value.{Value}
 use Rattle.bv_terms.specs.declared.value.Value.TheVariants as val
 use Rattle.bv_terms.specs.Sorts.{HasSort, HaveSorts}
 use Rattle.isel_spec.specs.Form.{bits_of}
-use Rattle.isel_cmd.specs.Enumeration.{value_numbered, inputs_numbered}
+use Rattle.isel_cmd.specs.Cases.{value_numbered, inputs_numbered}
 use Rattle.isel_cmd.proofs.ListLemmas.{In}
 
 HasSort-numbered : (s : Sort) (n : ℕ) → (s ≡ sort.Mem → ⊥) → HasSort s (value_numbered s (n % 2 ^ bits_of s))

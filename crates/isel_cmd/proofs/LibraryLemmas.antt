@@ -20,7 +20,9 @@ use Rattle.pattern_core.specs.Walk.{IsCanonical}
 use Rattle.pattern_core.specs.Order.{source_cmp, node_cmp, multiset, pattern_cmp, IsRising}
 use Rattle.pattern_core.specs.Library.{HasNoRule, IsLeastSize, AreRules, IsLibrary}
 use Rattle.isel_cmd.specs.declared.enumeration.Wanted.{Wanted}
-use Rattle.isel_cmd.specs.Enumeration.{IsPlain, IsSearchable, IsWanted, result_in, cases_of, places, tuples, input_at, input_agrees, term_agrees, input_pattern, operation_pattern, input_rules, operation_rules, rules_from}
+use Rattle.isel_cmd.specs.Enumeration.{IsPlain, IsSearchable}
+use Rattle.isel_cmd.specs.Candidates.{IsWanted, result_in, places, tuples, input_pattern, operation_pattern, input_rules, operation_rules, rules_from}
+use Rattle.isel_cmd.specs.Cases.{cases_of, input_at, input_agrees, term_agrees}
 use Rattle.isel_cmd.proofs.ListLemmas.{In, In-from_Contains, Contains-from_In, In-slice_get, In-append_left, In-append_right, In-append_cases, In-map, In_of_map, In-filter, In_of_filter, IsOrdered, IsOrdered-filter, IsOrdered-map, IsOrdered-append, IsRising-from_ordered}
 use Rattle.isel_cmd.proofs.TupleLemmas.{same_sort-true, same_sort-refl, slice_get-places_from, In-places_from, IsOrdered-places_from, Fit, Fit-from_tuples, In-tuples, IsBefore, IsOrdered-tuples, nat_cmp-lt, nat_cmp_itself}
 use Rattle.isel_cmd.proofs.PatternLemmas.{IsCanonical-input, IsCanonical-operation, IsWellFormed-input, IsInputOf-from_well_formed, IsUsable, IsWellFormed-operation, one_of_length, IsOverInputs-from_well_formed}
@@ -102,8 +104,8 @@ of_rules_from : (w : Wanted) (op : ℕ) (os : List Operation) (p : Pattern) → 
 of_rules_from w op [] p h = absurd h
 of_rules_from w op (o ∷ os) p h =
     elim (In-append_cases (operation_rules w op o) (rules_from w (op + 1) os) p h) [
-      inl a ↦ (let here : op ≡ op + 0 = omega arith in (0, o, refl, subst (λ n. In (operation_rules w n o) p) here a))
-    | inr b ↦ (let r = of_rules_from w (op + 1) os p b in let later : (op + 1) + r.0 ≡ op + suc r.0 = omega arith in (suc r.0, r.1, r.2, subst (λ n. In (operation_rules w n r.1) p) later r.3))
+      | inl a ↦ (let here : op ≡ op + 0 = omega arith in (0, o, refl, subst (λ n. In (operation_rules w n o) p) here a))
+      | inr b ↦ (let r = of_rules_from w (op + 1) os p b in let later : (op + 1) + r.0 ≡ op + suc r.0 = omega arith in (suc r.0, r.1, r.2, subst (λ n. In (operation_rules w n r.1) p) later r.3))
     ]
 
 in_rules_from : (w : Wanted) (op : ℕ) (os : List Operation) (p : Pattern) (d : ℕ) (o : Operation) → slice_get os d ≡ Some o → In (operation_rules w (op + d) o) p → In (rules_from w op os) p
@@ -156,7 +158,7 @@ operation_from_rule f g w k p wf one rule =
     let there : In (tuples inputs o.args) r.places = In-tuples inputs o.args r.places (subst (λ ss. Fit ss o.args r.places) (sym k.wanted.sorts) r.fit) in
     let passes : agree r.places ≡ true = (operation_decides f g w k r.op o r.usable r.places).1 (subst (IsRule f g) (sym r.is) rule) in
     let listed : In (map (operation_pattern r.op) (filter agree (tuples inputs o.args))) p =
-        subst (In (map (operation_pattern r.op) (filter agree (tuples inputs o.args)))) r.is (In-map (operation_pattern r.op) (filter agree (tuples inputs o.args)) r.places (In-filter agree (tuples inputs o.args) r.places there passes)) in
+    subst (In (map (operation_pattern r.op) (filter agree (tuples inputs o.args)))) r.is (In-map (operation_pattern r.op) (filter agree (tuples inputs o.args)) r.places (In-filter agree (tuples inputs o.args) r.places there passes)) in
     let sort_is : sort_of (result_in o.results) ≡ Some w.sort = ap (λ rs. sort_of (result_in rs)) r.usable.results ∙ r.usable.sorted in
     let found : In (operation_rules w r.op o) p = if_in (option_map_or (same_sort w.sort) (sort_of (result_in o.results)) false) (map (operation_pattern r.op) (filter agree (tuples inputs o.args))) p (sort_given w o sort_is) listed in
     let here : r.op ≡ 0 + r.op = omega arith in
@@ -258,9 +260,9 @@ cases_nil (x ∷ xs) = inr (x, inl refl)
 pub IsLibrary-inputs : (f : File) (g : Goal) (w : Wanted) (bound : ℕ) → IsTask f g w → (input_rules w ≡ [] → ⊥) → IsLibrary f g bound (input_rules w)
 IsLibrary-inputs f g w bound k some =
     elim (cases_nil (input_rules w)) [
-      inl none ↦ absurd (some none)
-    | inr x ↦ (let r = rule_from_input f g w k x.0 x.1 in
-        inr (0, omega arith, record { pattern = x.0; well_formed = r.0; rule = r.3; of_size = r.2; least = λ p wf l. absurd (omega (arith, l)) }, input_AreRules f g w k))
+      | inl none ↦ absurd (some none)
+      | inr x ↦ (let r = rule_from_input f g w k x.0 x.1 in
+          inr (0, omega arith, record { pattern = x.0; well_formed = r.0; rule = r.3; of_size = r.2; least = λ p wf l. absurd (omega (arith, l)) }, input_AreRules f g w k))
     ]
 
 pub IsLibrary-no_inputs : (f : File) (g : Goal) (w : Wanted) → IsTask f g w → input_rules w ≡ [] → IsLibrary f g 0 []
@@ -269,11 +271,12 @@ IsLibrary-no_inputs f g w k none = inl (λ p wf size rule. no_input_rule f g w k
 pub IsLibrary-operations : (f : File) (g : Goal) (w : Wanted) → IsTask f g w → input_rules w ≡ [] → IsLibrary f g 1 (rules_from w 0 f.ops)
 IsLibrary-operations f g w k none =
     elim (cases_nil (rules_from w 0 f.ops)) [
-      inl empty ↦ inl (
+      | inl empty ↦ inl (
         (λ p wf size rule. by_size p wf rule empty (length p.nodes) refl size),
-        empty)
-    | inr x ↦ (let r = rule_from_operations f g w k x.0 x.1 in
-        inr (1, omega arith, record { pattern = x.0; well_formed = r.0; rule = r.3; of_size = r.2; least = λ p wf l rule. no_input_rule f g w k none p wf (omega arith) rule }, operation_AreRules f g w k))
+        empty,
+      )
+      | inr x ↦ (let r = rule_from_operations f g w k x.0 x.1 in
+          inr (1, omega arith, record { pattern = x.0; well_formed = r.0; rule = r.3; of_size = r.2; least = λ p wf l rule. no_input_rule f g w k none p wf (omega arith) rule }, operation_AreRules f g w k))
     ]
   where
     by_size : (p : Pattern) → IsWellFormed f g p → IsRule f g p → rules_from w 0 f.ops ≡ [] → (n : ℕ) → length p.nodes ≡ n → n ≤ 1 → ⊥
@@ -298,8 +301,8 @@ IsTask-from_searchable f place g w searchable there wanted =
 pub IsLibrary-from_inputs : (f : File) (g : Goal) (w : Wanted) (bound : ℕ) (found : List Pattern) → IsTask f g w → found ≡ input_rules w → (bound ≡ 0) ⊎ (found ≡ [] → ⊥) → IsLibrary f g bound found
 IsLibrary-from_inputs f g w bound found k is (inl e) =
     elim (cases_nil found) [
-      inl none ↦ subst (λ n. IsLibrary f g n found) (sym e) (subst (IsLibrary f g 0) (sym none) (IsLibrary-no_inputs f g w k (sym is ∙ none)))
-    | inr x ↦ subst (IsLibrary f g bound) (sym is) (IsLibrary-inputs f g w bound k (λ none. let i : In [] x.0 = subst (λ xs. In xs x.0) (is ∙ none) x.1 in i))
+      | inl none ↦ subst (λ n. IsLibrary f g n found) (sym e) (subst (IsLibrary f g 0) (sym none) (IsLibrary-no_inputs f g w k (sym is ∙ none)))
+      | inr x ↦ subst (IsLibrary f g bound) (sym is) (IsLibrary-inputs f g w bound k (λ none. let i : In [] x.0 = subst (λ xs. In xs x.0) (is ∙ none) x.1 in i))
     ]
 IsLibrary-from_inputs f g w bound found k is (inr some) = subst (IsLibrary f g bound) (sym is) (IsLibrary-inputs f g w bound k (λ none. some (is ∙ none)))
 

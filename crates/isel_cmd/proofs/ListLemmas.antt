@@ -63,8 +63,8 @@ pub In_of_filter : {X : Type 0} (p : X → Bool) (xs : List X) (x : X) → In (f
 In_of_filter p [] x h = absurd h
 In_of_filter {X} p (z ∷ xs) x h =
     elim (In-cond (p z) z (filter p xs) x h) [
-      inl a ↦ (inl a.0, ap p (sym a.0) ∙ a.1)
-    | inr b ↦ (let r = In_of_filter p xs x b in (inr r.0, r.1))
+      | inl a ↦ (inl a.0, ap p (sym a.0) ∙ a.1)
+      | inr b ↦ (let r = In_of_filter p xs x b in (inr r.0, r.1))
     ]
 
 pub In-filter : {X : Type 0} (p : X → Bool) (xs : List X) (x : X) → In xs x → p x ≡ true → In (filter p xs) x
@@ -96,9 +96,10 @@ IsOrdered-map {X} {Y} R S f k (x ∷ xs) h =
 
 pub IsOrdered-append : {X : Type 0} (R : X → X → Type 0) (xs ys : List X) → IsOrdered R xs → IsOrdered R ys → ((x y : X) → In xs x → In ys y → R x y) → IsOrdered R (xs ++ ys)
 IsOrdered-append R [] ys h k c = k
-IsOrdered-append {X} R (x ∷ xs) ys h k c =
-    (λ y i. elim (In-append_cases xs ys y i) [ inl a ↦ h.0 y a | inr b ↦ c x y (inl refl) b ],
-    IsOrdered-append R xs ys h.1 k (λ a b i j. c a b (inr i) j))
+IsOrdered-append {X} R (x ∷ xs) ys h k c = (
+  λ y i. elim (In-append_cases xs ys y i) [ inl a ↦ h.0 y a | inr b ↦ c x y (inl refl) b ],
+  IsOrdered-append R xs ys h.1 k (λ a b i j. c a b (inr i) j),
+)
 
 pub IsRising-from_ordered : {X : Type 0} (cmp : X → X → Ordering) (xs : List X) → IsOrdered (λ a b. cmp a b ≡ Less) xs → IsRising cmp xs
 IsRising-from_ordered cmp [] h = tt

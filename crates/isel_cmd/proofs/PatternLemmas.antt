@@ -12,7 +12,8 @@ use Rattle.pattern_core.specs.declared.pattern.Node.{Node}
 use Rattle.pattern_core.specs.declared.pattern.Pattern.{Pattern}
 use Rattle.pattern_core.specs.Pattern.{source_sort, operation_sort, Pairwise, IsFitting, IsNamed, IsWellFormed, args_of}
 use Rattle.pattern_core.specs.Walk.{walk, below, IsCanonical}
-use Rattle.isel_cmd.specs.Enumeration.{IsPlain, input_pattern, operation_pattern}
+use Rattle.isel_cmd.specs.Enumeration.{IsPlain}
+use Rattle.isel_cmd.specs.Candidates.{input_pattern, operation_pattern}
 use Rattle.isel_cmd.proofs.ListLemmas.{In, In-from_Contains, Contains-from_In, In-slice_get, In_of_map}
 use Rattle.isel_cmd.proofs.TupleLemmas.{Fit}
 
@@ -89,7 +90,7 @@ pub record IsUsable (f : File) (g : Goal) (s : Sort) (op : ℕ) (o : Operation) 
   pub sorted : sort_of result ≡ Some s
 
 operation_result : (f : File) (g : Goal) (s : Sort) (op : ℕ) (o : Operation) (n : Node) → IsUsable f g s op o → n.op ≡ op → source_sort f g (n ∷ []) 1 (Out 0 0) ≡ Some s
-operation_result f g s op o n u e = 
+operation_result f g s op o n u e =
     let there : slice_get f.ops n.op ≡ Some o = ap (slice_get f.ops) e ∙ u.in_file in
     ap (λ x. operation_sort x 0) there ∙ ap (λ rs. option_and_then sort_of (slice_get rs 0)) u.results ∙ u.sorted
 
@@ -164,8 +165,8 @@ no_output_in n ks (suc j) node result e i = absurd i
 named_by_result : (n : Node) (ks : List ℕ) (r : Src) (p : Pattern) → AreInputs n.args ks → p.nodes ≡ n ∷ [] → p.results ≡ r ∷ [] → IsNamed p 0 → (result : ℕ) × (r ≡ Out 0 result)
 named_by_result n ks r p e nodes results h =
     elim h.1 [
-      inl a ↦ (let i = subst (λ xs. In xs (Out 0 h.0)) results (In-from_Contains p.results (Out 0 h.0) a) in (h.0, elim i [ inl q ↦ q | inr q ↦ absurd q ]))
-    | inr b ↦ absurd (no_output_in n ks b.0 0 h.0 e (subst (λ ns. In (args_of (slice_get ns b.0)) (Out 0 h.0)) nodes (In-from_Contains (args_of (slice_get p.nodes b.0)) (Out 0 h.0) b.1)))
+      | inl a ↦ (let i = subst (λ xs. In xs (Out 0 h.0)) results (In-from_Contains p.results (Out 0 h.0) a) in (h.0, elim i [ inl q ↦ q | inr q ↦ absurd q ]))
+      | inr b ↦ absurd (no_output_in n ks b.0 0 h.0 e (subst (λ ns. In (args_of (slice_get ns b.0)) (Out 0 h.0)) nodes (In-from_Contains (args_of (slice_get p.nodes b.0)) (Out 0 h.0) b.1)))
     ]
 
 -- the only result is result 0

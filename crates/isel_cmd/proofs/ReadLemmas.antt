@@ -5,7 +5,7 @@ use Rattle.std.proofs.lemmas.List.{get_or_default, at_drop_more}
 use Rattle.std.proofs.lemmas.Option.{unwrap_or-slice_get}
 use Rattle.bv_terms.specs.declared.value.Value.{Value}
 use Rattle.bv_terms.specs.declared.value.Value.TheVariants as val
-use Rattle.isel_cmd.specs.Enumeration.{input_at, same_value}
+use Rattle.isel_cmd.specs.Cases.{input_at, same_value}
 
 pub get_or-input_at : (inputs : List Value) (k : ℕ) (d : Value) → k < length inputs → get_or inputs k d ≡ input_at inputs k
 get_or-input_at inputs k d l = get_or_default inputs k d (val.Bool false) l ∙ sym (unwrap_or-slice_get inputs k (val.Bool false))

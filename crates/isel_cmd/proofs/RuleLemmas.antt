@@ -15,8 +15,9 @@ use Rattle.isel_spec.specs.Form.{bits_of}
 use Rattle.pattern_core.specs.declared.pattern.Src.TheVariants.{Input, Out}
 use Rattle.pattern_core.specs.declared.pattern.Pattern.{Pattern}
 use Rattle.pattern_core.specs.Pattern.{source_value, attr_values, op_results, pattern_results, goal_results, IsRule}
-use Rattle.isel_cmd.specs.declared.enumeration.Case.{Case}
-use Rattle.isel_cmd.specs.Enumeration.{same_value, input_at, inputs_numbered, case_numbered, cases_of, input_agrees, term_agrees, input_pattern, operation_pattern}
+use Rattle.isel_cmd.specs.declared.enumeration.cases.Case.{Case}
+use Rattle.isel_cmd.specs.Cases.{same_value, input_at, inputs_numbered, case_numbered, cases_of, input_agrees, term_agrees}
+use Rattle.isel_cmd.specs.Candidates.{input_pattern, operation_pattern}
 use Rattle.isel_cmd.proofs.ListLemmas.{In, In-map, In_of_map, list_all_in, list_all_from_in}
 use Rattle.isel_cmd.proofs.InputLemmas.{HaveSorts-numbered, IsNumbered-from_sorts}
 use Rattle.isel_cmd.proofs.PatternLemmas.{IsUsable}
@@ -62,8 +63,8 @@ passes_everywhere p ss t h vs sorts =
 pub passes_all_cases : (p : Case → Bool) (ss : List Sort) (t : Term) → (In ss sort.Mem → ⊥) → ((vs : List Value) → HaveSorts ss vs → p (case_at t vs) ≡ true) → list_all p (cases_of ss t) ≡ true
 passes_all_cases p ss t plain h =
     list_all_from_in p (cases_of ss t) (λ c i.
-        let r = In_of_map (case_numbered ss t) (range_with_len 0 (2 ^ sum_by bits_of ss)) c i in
-        subst (λ x. p x ≡ true) r.2 (h (inputs_numbered ss r.0) (HaveSorts-numbered ss r.0 plain)))
+    let r = In_of_map (case_numbered ss t) (range_with_len 0 (2 ^ sum_by bits_of ss)) c i in
+    subst (λ x. p x ≡ true) r.2 (h (inputs_numbered ss r.0) (HaveSorts-numbered ss r.0 plain)))
 
 -- ---- rules
 
@@ -84,9 +85,10 @@ values_from_rule f g t p v one gives rule vs sorts =
 
 -- a test of one value in each case decides whether the pattern is a rule
 pub decides_rule : (f : File) (g : Goal) (t : Term) (p : Pattern) (v : List Value → Value) → (In g.args sort.Mem → ⊥) → g.results ≡ t ∷ [] → GivesValue f p v → (list_all (λ (c : Case). same_value (v c.inputs.values) c.result) (cases_of g.args t) ≡ true) ↔ IsRule f g p
-decides_rule f g t p v plain one gives =
-    (λ h. IsRule-from_values f g t p v one gives (λ vs sorts. same_value-true (v vs) (value vs t) (passes_everywhere (λ (c : Case). same_value (v c.inputs.values) c.result) g.args t h vs sorts)),
-    λ rule. passes_all_cases (λ (c : Case). same_value (v c.inputs.values) c.result) g.args t plain (λ vs sorts. same_value-refl (v vs) (value vs t) (values_from_rule f g t p v one gives rule vs sorts)))
+decides_rule f g t p v plain one gives = (
+  λ h. IsRule-from_values f g t p v one gives (λ vs sorts. same_value-true (v vs) (value vs t) (passes_everywhere (λ (c : Case). same_value (v c.inputs.values) c.result) g.args t h vs sorts)),
+  λ rule. passes_all_cases (λ (c : Case). same_value (v c.inputs.values) c.result) g.args t plain (λ vs sorts. same_value-refl (v vs) (value vs t) (values_from_rule f g t p v one gives rule vs sorts)),
+)
 
 pub GivesValue-input : (f : File) (k : ℕ) → GivesValue f (input_pattern k) (λ vs. input_at vs k)
 GivesValue-input f k vs = refl

@@ -26,9 +26,11 @@ use Rattle.isel_spec.specs.declared.spec.Spec.{Spec}
 use Rattle.isel_spec.specs.File.{Operation, Goal, operation, goal, scope, stays_in, all_stay_in, are_sound, is_between, is_sound_op, is_sound_goal, is_sound}
 use Rattle.isel_spec.specs.Spec.{file}
 use Rattle.isel_spec.specs.Form.{bits_of}
-use Rattle.isel_cmd.specs.declared.enumeration.Case.{Case}
+use Rattle.isel_cmd.specs.declared.enumeration.cases.Case.{Case}
 use Rattle.isel_cmd.specs.declared.enumeration.Wanted.{Wanted}
-use Rattle.isel_cmd.specs.Enumeration.{IsPlain, IsSearchable, IsWanted, IsTried, input_at, result_in, inputs_numbered, case_numbered, cases_of}
+use Rattle.isel_cmd.specs.Enumeration.{IsPlain, IsSearchable}
+use Rattle.isel_cmd.specs.Candidates.{IsWanted, IsTried, result_in}
+use Rattle.isel_cmd.specs.Cases.{input_at, inputs_numbered, case_numbered, cases_of}
 use Rattle.isel_cmd.proofs.ListLemmas.{In, Contains-from_In, In-slice_get, list_all_at}
 use Rattle.isel_cmd.proofs.InputLemmas.{HaveSorts-numbered}
 use Rattle.isel_cmd.proofs.TupleLemmas.{same_sort-true, Fit}
@@ -51,6 +53,7 @@ stays_at s (Some t) h = ap Some (sym (same_sort-true s t h))
 
 mutual
   unfolding stays_in InputsFit
+
   pub InputsFit-from_sorts : (ss : List Sort) (vs : List Value) → HaveSorts ss vs → (t : Term) → stays_in ss t ≡ true → InputsFit vs t
   InputsFit-from_sorts ss vs h (Apply (op.Input k s) ts) e = value_at ss vs k s h (stays_at s (slice_get ss k) e)
   InputsFit-from_sorts ss vs h (Apply o ts) e = AllInputsFit-from_sorts ss vs h ts e

@@ -10,9 +10,10 @@ use Rattle.bv_terms.specs.Term.{Term}
 use Rattle.bv_terms.specs.Sorts.{InputsFit, sort_of, same_sort}
 use Rattle.isel_spec.specs.File.{Operation, stays_in}
 use Rattle.pattern_core.specs.declared.pattern.Pattern.{Pattern}
-use Rattle.isel_cmd.specs.declared.enumeration.Case.{Case}
+use Rattle.isel_cmd.specs.declared.enumeration.cases.Case.{Case}
 use Rattle.isel_cmd.specs.declared.enumeration.Wanted.{Wanted}
-use Rattle.isel_cmd.specs.Enumeration.{IsTried, places, tuples, input_at, result_in, term_agrees, operation_pattern, operation_rules, rules_from}
+use Rattle.isel_cmd.specs.Candidates.{IsTried, places, tuples, result_in, operation_pattern, operation_rules, rules_from}
+use Rattle.isel_cmd.specs.Cases.{input_at, term_agrees}
 use Rattle.isel_cmd.proofs.ListLemmas.{In, In-from_Contains}
 use Rattle.isel_cmd.proofs.TupleLemmas.{slice_get-places_from, Fit, Fit-from_tuples}
 use Rattle.isel_cmd.proofs.SoundLemmas.{length-sorts, HaveSorts-picked, places_within, InputsFit-from_sorts}

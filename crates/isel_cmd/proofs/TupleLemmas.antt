@@ -9,7 +9,7 @@ use Rattle.std.proofs.lemmas.Bool.{eqb-true, eq-eqb, lt-ltb, le-ltb, cond-true, 
 use Rattle.bv_terms.specs.declared.value.Sort.{Sort}
 use Rattle.bv_terms.specs.declared.value.Sort.TheVariants as sort
 use Rattle.bv_terms.specs.Sorts.{same_sort}
-use Rattle.isel_cmd.specs.Enumeration.{places_from, places, longer, tuples}
+use Rattle.isel_cmd.specs.Candidates.{places_from, places, longer, tuples}
 use Rattle.isel_cmd.proofs.ListLemmas.{In, In-append_left, In-append_right, In-append_cases, In-map, In_of_map, IsOrdered, IsOrdered-map, IsOrdered-append}
 
 -- the test of sorts decides whether they are equal
@@ -52,8 +52,8 @@ pub slice_get-places_from : (k : ℕ) (s : Sort) (ts : List Sort) (n : ℕ) → 
 slice_get-places_from k s [] n h = absurd h
 slice_get-places_from k s (t ∷ ts) n h =
     elim (in_cond (same_sort s t) k (places_from (k + 1) s ts) n h) [
-      inl a ↦ (0, omega (arith, sym a.0), ap Some (sym (same_sort-true s t a.1)))
-    | inr b ↦ (let r = slice_get-places_from (k + 1) s ts n b in (suc r.0, omega (arith, r.1), r.2))
+      | inl a ↦ (0, omega (arith, sym a.0), ap Some (sym (same_sort-true s t a.1)))
+      | inr b ↦ (let r = slice_get-places_from (k + 1) s ts n b in (suc r.0, omega (arith, r.1), r.2))
     ]
 
 pub In-places_from : (k : ℕ) (s : Sort) (ts : List Sort) (d : ℕ) → slice_get ts d ≡ Some s → In (places_from k s ts) (k + d)
@@ -102,8 +102,8 @@ of_longer : (ts : List (List ℕ)) (firsts : List ℕ) (ks : List ℕ) → In (l
 of_longer ts [] ks h = absurd h
 of_longer ts (f ∷ fs) ks h =
     elim (In-append_cases (map (λ x. f ∷ x) ts) (longer ts fs) ks h) [
-      inl a ↦ (let r = In_of_map (λ x. f ∷ x) ts ks a in (f, r.0, inl refl, r.1, r.2))
-    | inr b ↦ (let r = of_longer ts fs ks b in (r.0, r.1, inr r.2, r.3, r.4))
+      | inl a ↦ (let r = In_of_map (λ x. f ∷ x) ts ks a in (f, r.0, inl refl, r.1, r.2))
+      | inr b ↦ (let r = of_longer ts fs ks b in (r.0, r.1, inr r.2, r.3, r.4))
     ]
 
 pub Fit-from_tuples : (inputs args : List Sort) (ks : List ℕ) → In (tuples inputs args) ks → Fit inputs args ks

@@ -5,3 +5,5 @@ pub mod Words
 pub mod Command
 pub mod Program
 pub mod Enumeration
+pub mod Cases
+pub mod Candidates

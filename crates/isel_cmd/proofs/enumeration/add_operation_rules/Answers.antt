@@ -4,8 +4,9 @@ use Rattle.bv_terms.specs.declared.value.Sort.{Sort}
 use Rattle.bv_terms.specs.Sorts.{InputsFit}
 use Rattle.bv_terms.specs.Table.{term_at}
 use Rattle.pattern_core.specs.declared.pattern.Pattern.{Pattern}
-use Rattle.isel_cmd.specs.declared.enumeration.Case.{Case}
-use Rattle.isel_cmd.specs.Enumeration.{tuples, term_agrees, input_at, operation_pattern}
+use Rattle.isel_cmd.specs.declared.enumeration.cases.Case.{Case}
+use Rattle.isel_cmd.specs.Candidates.{tuples, operation_pattern}
+use Rattle.isel_cmd.specs.Cases.{term_agrees, input_at}
 use Rattle.isel_cmd.proofs.SoundLemmas.{IsSoundOp_at, IsOperationAt-from_definition}
 use Rattle.isel_cmd.proofs.TupleLemmas.{Fit}
 use Rattle.isel_cmd.proofs.TriedLemmas.{tuple_fits, tuple_within, inputs_fit, no_operation_rules, operation_rules_are}
@@ -23,8 +24,8 @@ pub returns-then-not-is_same_sort : goal.returns-then-not-is_same_sort
 returns-then-not-is_same_sort c =
     let k = IsOperationAt-from_definition c.args.spec.now c.args.op _ _ c.first-result.result c.requires.plain c.operation_at-definition.ensures.1 c.first-result.ensures in
     λ o there.
-        let none = no_operation_rules c.args.wanted.now c.args.op o (term_at c.args.spec.now.terms c.first-result.result) c.sort.result (k.result o there) c.sort.ensures (sym c.is_same_sort.ensures ∙ c.if-not-is_same_sort.true) in
-        sym (ap (λ (ps : List Pattern). c.args.rules.now.items ++ ps) none ∙ append-nil c.args.rules.now.items)
+    let none = no_operation_rules c.args.wanted.now c.args.op o (term_at c.args.spec.now.terms c.first-result.result) c.sort.result (k.result o there) c.sort.ensures (sym c.is_same_sort.ensures ∙ c.if-not-is_same_sort.true) in
+    sym (ap (λ (ps : List Pattern). c.args.rules.now.items ++ ps) none ∙ append-nil c.args.rules.now.items)
 
 pub does_term_agree-requires-clause-there : goal.does_term_agree-requires-clause-there
 does_term_agree-requires-clause-there c =
@@ -58,12 +59,12 @@ pub returns : goal.returns
 returns c =
     let k = IsOperationAt-from_definition c.args.spec.now c.args.op _ _ c.first-result.result c.requires.plain c.operation_at-definition.ensures.1 c.first-result.ensures in
     λ o there.
-        let t = term_at c.args.spec.now.terms c.first-result.result in
-        let w = c.args.wanted.now in
-        let items = c.deref-tuple-items.result.now in
-        let whole = take_all c.loop-tuple.tuple-index items c.loop-tuple-test.false in
-        let are = (c.deref-tuple-items.ensures.value ∙ c.in_ok-tuples.ensures ∙ (λ i. tuples (c.deref.ensures.value i) (c.as_slice.ensures i))) in
-        let rules = operation_rules_are w c.args.op o t c.sort.result c.operation_at-definition.result.now.args (k.result o there) c.sort.ensures (sym c.is_same_sort.ensures ∙ c.if-not-is_same_sort.false) (k.args o there) in
-        c.loop-tuple.invariant
-        ∙ ap (λ (xs : List (List ℕ)). c.args.rules.now.items ++ map (operation_pattern c.args.op) (filter (term_agrees w.cases.items t) xs)) (whole ∙ are)
-        ∙ ap (λ (ps : List Pattern). c.args.rules.now.items ++ ps) (sym rules)
+    let t = term_at c.args.spec.now.terms c.first-result.result in
+    let w = c.args.wanted.now in
+    let items = c.deref-tuple-items.result.now in
+    let whole = take_all c.loop-tuple.tuple-index items c.loop-tuple-test.false in
+    let are = (c.deref-tuple-items.ensures.value ∙ c.in_ok-tuples.ensures ∙ (λ i. tuples (c.deref.ensures.value i) (c.as_slice.ensures i))) in
+    let rules = operation_rules_are w c.args.op o t c.sort.result c.operation_at-definition.result.now.args (k.result o there) c.sort.ensures (sym c.is_same_sort.ensures ∙ c.if-not-is_same_sort.false) (k.args o there) in
+    c.loop-tuple.invariant
+    ∙ ap (λ (xs : List (List ℕ)). c.args.rules.now.items ++ map (operation_pattern c.args.op) (filter (term_agrees w.cases.items t) xs)) (whole ∙ are)
+    ∙ ap (λ (ps : List Pattern). c.args.rules.now.items ++ ps) (sym rules)

@@ -1,6 +1,7 @@
 use Rattle.std.proofs.Common.{◌≡◌, ◌++◌, map, filter, take}
 use Rattle.bv_terms.specs.Table.{term_at}
-use Rattle.isel_cmd.specs.Enumeration.{term_agrees, operation_pattern}
+use Rattle.isel_cmd.specs.Cases.{term_agrees}
+use Rattle.isel_cmd.specs.Candidates.{operation_pattern}
 use Rattle.isel_cmd.proofs.enumeration.add_operation_rules.Given as goal
 
 abbrev pub invariant-loop-tuple : goal.invariant-loop-tuple

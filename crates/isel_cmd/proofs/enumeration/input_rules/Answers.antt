@@ -1,6 +1,6 @@
 use Rattle.std.proofs.Common.{◌∙◌, ap, List}
 use Rattle.bv_terms.specs.declared.value.Sort.{Sort}
-use Rattle.isel_cmd.specs.Enumeration.{places}
+use Rattle.isel_cmd.specs.Candidates.{places}
 use Rattle.isel_cmd.proofs.TriedLemmas.{input_within}
 use Rattle.isel_cmd.proofs.enumeration.input_rules.Goals as goal
 

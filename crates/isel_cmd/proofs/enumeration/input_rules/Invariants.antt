@@ -1,5 +1,6 @@
 use Rattle.std.proofs.Common.{◌≡◌, map, filter, take}
-use Rattle.isel_cmd.specs.Enumeration.{input_agrees, input_pattern}
+use Rattle.isel_cmd.specs.Cases.{input_agrees}
+use Rattle.isel_cmd.specs.Candidates.{input_pattern}
 use Rattle.isel_cmd.proofs.enumeration.input_rules.Given as goal
 
 abbrev pub invariant-loop-place : goal.invariant-loop-place

@@ -1,6 +1,6 @@
 use Rattle.std.proofs.Common.{◌≡◌, ◌++◌, drop}
 use Rattle.isel_spec.specs.Spec.{file}
-use Rattle.isel_cmd.specs.Enumeration.{rules_from}
+use Rattle.isel_cmd.specs.Candidates.{rules_from}
 use Rattle.isel_cmd.proofs.enumeration.operation_rules.Given as goal
 
 abbrev pub invariant-loop-op : goal.invariant-loop-op

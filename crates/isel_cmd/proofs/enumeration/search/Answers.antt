@@ -14,7 +14,7 @@ returns-then-bound-eq0 c = λ g there.
     let task = IsTask-from_searchable (file c.args.spec.now) c.args.goal g w c.requires.searchable there (c.in_ok-wanted.ensures.wanted g there) in
     IsLibrary-from_inputs (file c.args.spec.now) g w c.args.bound rules.items task c.in_ok-rules.ensures
     (elim c.then-bound-eq0.branch [
-        then-bound-eq0-via-then-bound-eq0 v ↦ inl v.if-bound-eq0.true
+      | then-bound-eq0-via-then-bound-eq0 v ↦ inl v.if-bound-eq0.true
       | then-bound-eq0-via-else-bound-eq0+then-not-is_empty v ↦ inr (λ none.
           let empty : vec_len rules ≡ 0 = rules.ok.0 ∙ ap length none in
           false≢true (v.if-not-is_empty.ensures ∙ eq-eqb (vec_len rules) 0 empty))
@@ -27,5 +27,5 @@ returns c =
     let empty : vec_len rules ≡ 0 = eqb-true (vec_len rules) 0 (sym c.if-not-is_empty.ensures) in
     let none : rules.items ≡ [] = nil_from_length rules.items (sym rules.ok.0 ∙ empty) in
     IfOk-weaker c.operation_rules.result _ _ (λ found is g there.
-        let task = IsTask-from_searchable (file c.args.spec.now) c.args.goal g w c.requires.searchable there (c.in_ok-wanted.ensures.wanted g there) in
-        IsLibrary-from_operations (file c.args.spec.now) g w c.args.bound found.items task c.requires.bound c.if-bound-eq0.false (sym c.in_ok-rules.ensures ∙ none) is) c.operation_rules.ensures
+    let task = IsTask-from_searchable (file c.args.spec.now) c.args.goal g w c.requires.searchable there (c.in_ok-wanted.ensures.wanted g there) in
+    IsLibrary-from_operations (file c.args.spec.now) g w c.args.bound found.items task c.requires.bound c.if-bound-eq0.false (sym c.in_ok-rules.ensures ∙ none) is) c.operation_rules.ensures

@@ -4,10 +4,10 @@ use Rattle.bv_terms.specs.declared.value.Value.{Value}
 use Rattle.bv_terms.specs.Term.{value}
 use Rattle.bv_terms.specs.Sorts.{InputsFit}
 use Rattle.bv_terms.specs.Table.{term_at}
-use Rattle.isel_cmd.specs.declared.enumeration.Case.{Case}
-use Rattle.isel_cmd.specs.Enumeration.{input_at, same_value}
+use Rattle.isel_cmd.specs.declared.enumeration.cases.Case.{Case}
+use Rattle.isel_cmd.specs.Cases.{input_at, same_value}
 use Rattle.isel_cmd.proofs.ReadLemmas.{here, list_all_goes_on, list_all_stops}
-use Rattle.isel_cmd.proofs.enumeration.does_term_agree.Goals as goal
+use Rattle.isel_cmd.proofs.enumeration.cases.does_term_agree.Goals as goal
 
 pub picked-requires : goal.picked-requires
 picked-requires c =

@@ -1,8 +1,8 @@
 use Rattle.std.proofs.Common.{◌<◌, length, ◌∙◌}
-use Rattle.isel_cmd.specs.declared.enumeration.Case.{Case}
-use Rattle.isel_cmd.specs.Enumeration.{input_at, same_value}
+use Rattle.isel_cmd.specs.declared.enumeration.cases.Case.{Case}
+use Rattle.isel_cmd.specs.Cases.{input_at, same_value}
 use Rattle.isel_cmd.proofs.ReadLemmas.{here, same_value_read, list_all_goes_on, list_all_stops}
-use Rattle.isel_cmd.proofs.enumeration.does_input_agree.Goals as goal
+use Rattle.isel_cmd.proofs.enumeration.cases.does_input_agree.Goals as goal
 
 pub loop-case-preserved : goal.loop-case-preserved
 loop-case-preserved c =

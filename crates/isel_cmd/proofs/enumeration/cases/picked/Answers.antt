@@ -1,7 +1,7 @@
 use Rattle.std.proofs.Common.{◌<◌, ◌≡◌, length, get_or, arith}
 use Rattle.std.proofs.lemmas.Grind.{common_steps}
 use Rattle.isel_cmd.proofs.ReadLemmas.{get_or-input_at}
-use Rattle.isel_cmd.proofs.enumeration.picked.Goals as goal
+use Rattle.isel_cmd.proofs.enumeration.cases.picked.Goals as goal
 
 pub loop-place-preserved : goal.loop-place-preserved
 loop-place-preserved c =

@@ -2,9 +2,9 @@ use Rattle.std.proofs.Common.{arith, refl}
 use Rattle.std.proofs.lemmas.Grind.{common_steps}
 use Rattle.std.proofs.lemmas.List.FromFn.{map-range_with_len_more}
 use Rattle.bv_terms.specs.Table.{term_at}
-use Rattle.isel_cmd.specs.Enumeration.{case_numbered}
+use Rattle.isel_cmd.specs.Cases.{case_numbered}
 use Rattle.isel_cmd.proofs.SoundLemmas.{case_is}
-use Rattle.isel_cmd.proofs.enumeration.all_cases.Goals as goal
+use Rattle.isel_cmd.proofs.enumeration.cases.all_cases.Goals as goal
 
 pub loop-number-preserved : goal.loop-number-preserved
 loop-number-preserved c =
