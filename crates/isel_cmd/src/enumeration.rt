@@ -49,7 +49,7 @@ fn operation_at(spec: &Spec, place: usize) -> &OpDef
     definition
 }
 
-/// The first of some results.
+/// The first of some results: the only one, in what the enumeration takes.
 fn first(results: &Listed<TermId>) -> TermId
     requires { 1 ≤ length results.now }
     ensures { slice_get results.now 0 ≡ Some result }
@@ -198,7 +198,8 @@ fn operation_rules(
     Ok(rules)
 }
 
-/// The library of a goal for a bound on size, by trying patterns and inputs one by one.
+/// The library of a goal for a bound on size, by trying patterns and inputs one by one: the rules of
+/// the least size that has one, in order, or no pattern at all. An `Err` is want of memory.
 pub fn search(alloc: Global, spec: &Spec, goal: u32, bound: u8) -> Result<Vec<Pattern>, AllocError>
     requires there { goal < length spec.now.goals }
     requires searchable { IsSearchable (file spec.now) goal }

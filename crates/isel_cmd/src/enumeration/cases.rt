@@ -51,7 +51,7 @@ fn count_of(sorts: &[Sort]) -> u64
     1 << total
 }
 
-/// The inputs under a number.
+/// The inputs under a number below their count: the lowest bits are the first input's.
 fn inputs_of(alloc: Global, sorts: &[Sort], number: u64) -> Result<Env, AllocError>
     requires { sum_by bits_of sorts.now ≤ 12 }
     ensures { IfOk result (λ env. env.values ≡ inputs_numbered sorts.now number) }
@@ -91,7 +91,7 @@ pub fn all_cases(
     Ok(cases)
 }
 
-/// Whether two values are equal, widths included.
+/// Whether two values are equal, widths included. It is a function so that clauses can name the test.
 fn is_same(left: Value, right: Value) -> bool
     ensures { result ≡ same_value left right }
 {
