@@ -1,6 +1,5 @@
 -- The patterns that the enumeration lists are the library of the goal.
-use Rattle.std.proofs.Common.{◌≡◌, ℕ, zero, suc, ◌+◌, ◌<◌, ◌≤◌, Bool, true, false, cond, List, [], ◌∷◌, ◌++◌, length, map, filter, Option, Some, None, ◌⊎◌, ◌↔◌, inl, inr, refl, sym, ap, subst, ◌∙◌, arith, slice_get, Contains}
-use Rattle.std.specs.Prelude.{nat_eq}
+use Rattle.std.proofs.Common.{◌≡◌, ℕ, zero, suc, ◌+◌, ◌<◌, ◌≤◌, Bool, true, false, cond, List, [], ◌∷◌, length, map, filter, Option, Some, None, ◌⊎◌, ◌↔◌, inl, inr, refl, sym, ap, subst, ◌∙◌, arith, slice_get, Contains}
 use Rattle.std.specs.Option.{option_map_or}
 use Rattle.std.specs.Ordering.{nat_cmp, ordering_then}
 use Rattle.std.specs.Cmp.Lexicographic.{slice_cmp}
@@ -8,17 +7,16 @@ use Rattle.std.specs.declared.cmp.Ordering.{Ordering}
 use Rattle.std.specs.declared.cmp.Ordering.TheVariants.{Less, Equal}
 use Rattle.bv_terms.specs.declared.value.Sort.{Sort}
 use Rattle.bv_terms.specs.declared.value.Sort.TheVariants as sort
-use Rattle.bv_terms.specs.declared.value.Value.{Value}
 use Rattle.bv_terms.specs.Term.{Term, value}
 use Rattle.bv_terms.specs.Sorts.{sort_of, same_sort}
 use Rattle.isel_spec.specs.File.{File, Operation, Goal}
-use Rattle.pattern_core.specs.declared.pattern.Src.TheVariants.{Input, Out}
+use Rattle.pattern_core.specs.declared.pattern.Src.TheVariants.{Input}
 use Rattle.pattern_core.specs.declared.pattern.Node.{Node}
 use Rattle.pattern_core.specs.declared.pattern.Pattern.{Pattern}
 use Rattle.pattern_core.specs.Pattern.{IsRule, IsWellFormed}
 use Rattle.pattern_core.specs.Walk.{IsCanonical}
-use Rattle.pattern_core.specs.Order.{source_cmp, node_cmp, multiset, pattern_cmp, IsRising}
-use Rattle.pattern_core.specs.Library.{HasNoRule, IsLeastSize, AreRules, IsLibrary}
+use Rattle.pattern_core.specs.Order.{source_cmp, pattern_cmp, IsRising}
+use Rattle.pattern_core.specs.Library.{AreRules, IsLibrary}
 use Rattle.isel_cmd.specs.declared.enumeration.Wanted.{Wanted}
 use Rattle.isel_cmd.specs.Enumeration.{IsPlain, IsSearchable}
 use Rattle.isel_cmd.specs.Candidates.{IsWanted, result_in, places, tuples, input_pattern, operation_pattern, input_rules, operation_rules, rules_from}

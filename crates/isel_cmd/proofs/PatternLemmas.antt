@@ -1,5 +1,5 @@
 -- The well-formed patterns of no node and of one node, over operations with one result and no attributes.
-use Rattle.std.proofs.Common.{◌≡◌, ℕ, zero, suc, ◌+◌, ◌*◌, ◌^◌, ◌<◌, ◌≤◌, Bool, true, false, cond, List, [], ◌∷◌, ◌++◌, length, map, Option, Some, None, ◌⊎◌, inl, inr, refl, sym, ap, subst, ◌∙◌, arith, slice_get, Contains, nat_lt}
+use Rattle.std.proofs.Common.{◌≡◌, ℕ, zero, suc, ◌^◌, ◌<◌, List, [], ◌∷◌, ◌++◌, length, map, Some, None, inl, inr, refl, sym, ap, subst, ◌∙◌, arith, slice_get, Contains, nat_lt}
 use Rattle.std.specs.Prelude.{fold, option_and_then}
 use Rattle.std.proofs.lemmas.Bool.{le-ltb, cond-false}
 use Rattle.bv_terms.specs.declared.value.Sort.{Sort}
@@ -11,7 +11,7 @@ use Rattle.pattern_core.specs.declared.pattern.Src.TheVariants.{Input, Out}
 use Rattle.pattern_core.specs.declared.pattern.Node.{Node}
 use Rattle.pattern_core.specs.declared.pattern.Pattern.{Pattern}
 use Rattle.pattern_core.specs.Pattern.{source_sort, operation_sort, Pairwise, IsFitting, IsNamed, IsWellFormed, args_of}
-use Rattle.pattern_core.specs.Walk.{walk, below, IsCanonical}
+use Rattle.pattern_core.specs.Walk.{walk, IsCanonical}
 use Rattle.isel_cmd.specs.Enumeration.{IsPlain}
 use Rattle.isel_cmd.specs.Candidates.{input_pattern, operation_pattern}
 use Rattle.isel_cmd.proofs.ListLemmas.{In, In-from_Contains, Contains-from_In, In-slice_get, In_of_map}

@@ -1,5 +1,5 @@
 -- A pattern agrees with the goal in all cases exactly where it is a rule.
-use Rattle.std.proofs.Common.{◌≡◌, ℕ, zero, suc, ◌+◌, ◌^◌, ◌<◌, Bool, true, false, ◌&&◌, List, [], ◌∷◌, ◌++◌, length, map, Option, Some, None, ◌⊎◌, ◌↔◌, inl, inr, refl, sym, ap, subst, ◌∙◌, arith, slice_get, eqb, sum_by}
+use Rattle.std.proofs.Common.{◌≡◌, ℕ, zero, suc, ◌+◌, ◌^◌, ◌<◌, Bool, true, false, List, [], ◌∷◌, ◌++◌, map, Some, ◌↔◌, inl, inr, refl, sym, ap, subst, ◌∙◌, arith, slice_get, eqb, sum_by}
 use Rattle.std.specs.Prelude.{unwrap_or}
 use Rattle.std.specs.List.{list_all, range_with_len}
 use Rattle.std.proofs.lemmas.Bool.{and_parts, and_from, eqb-true, eq-eqb}
@@ -12,11 +12,11 @@ use Rattle.bv_terms.specs.Term.{Term, value}
 use Rattle.bv_terms.specs.Sorts.{HaveSorts}
 use Rattle.isel_spec.specs.File.{File, Operation, Goal}
 use Rattle.isel_spec.specs.Form.{bits_of}
-use Rattle.pattern_core.specs.declared.pattern.Src.TheVariants.{Input, Out}
+use Rattle.pattern_core.specs.declared.pattern.Src.TheVariants.{Input}
 use Rattle.pattern_core.specs.declared.pattern.Pattern.{Pattern}
-use Rattle.pattern_core.specs.Pattern.{source_value, attr_values, op_results, pattern_results, goal_results, IsRule}
+use Rattle.pattern_core.specs.Pattern.{source_value, attr_values, op_results, pattern_results, IsRule}
 use Rattle.isel_cmd.specs.declared.enumeration.cases.Case.{Case}
-use Rattle.isel_cmd.specs.Cases.{same_value, input_at, inputs_numbered, case_numbered, cases_of, input_agrees, term_agrees}
+use Rattle.isel_cmd.specs.Cases.{same_value, input_at, inputs_numbered, case_numbered, cases_of}
 use Rattle.isel_cmd.specs.Candidates.{input_pattern, operation_pattern}
 use Rattle.isel_cmd.proofs.ListLemmas.{In, In-map, In_of_map, list_all_in, list_all_from_in}
 use Rattle.isel_cmd.proofs.InputLemmas.{HaveSorts-numbered, IsNumbered-from_sorts}

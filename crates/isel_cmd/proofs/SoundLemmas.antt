@@ -1,5 +1,5 @@
 -- What a `Spec` keeps, and the inputs at which a term has a value.
-use Rattle.std.proofs.Common.{◌≡◌, ℕ, zero, suc, ◌+◌, ◌<◌, ◌≤◌, Bool, true, false, ◌&&◌, List, [], ◌∷◌, ◌++◌, length, map, Option, Some, None, ◌⊎◌, inl, inr, refl, sym, ap, subst, ◌∙◌, arith, slice_get, All, get_or, Contains, sum_by, ◌^◌}
+use Rattle.std.proofs.Common.{◌≡◌, ℕ, zero, suc, ◌<◌, ◌≤◌, true, false, ◌&&◌, List, [], ◌∷◌, ◌++◌, length, map, Option, Some, None, refl, sym, ap, subst, ◌∙◌, arith, slice_get, All, get_or, Contains, sum_by, ◌^◌}
 use Rattle.std.specs.Prelude.{nat_lt, nat_le, ◌==◌, unwrap_or, option_map}
 use Rattle.std.specs.List.{list_all, range_with_len}
 use Rattle.std.specs.Option.{option_map_or}
@@ -7,8 +7,7 @@ use Rattle.std.proofs.lemmas.Bool.{and_parts, ltb-true, leb-true}
 use Rattle.std.proofs.lemmas.List.{append-nil, length-map}
 use Rattle.std.proofs.lemmas.List.Sums.{sum-map}
 use Rattle.std.proofs.lemmas.List.Elements.{All-map}
-use Rattle.std.proofs.lemmas.Option.{slice_get_within, unwrap_or-slice_get, slice_get-map, same_Some}
-use Rattle.bv_terms.specs.declared.op.Op.{Op}
+use Rattle.std.proofs.lemmas.Option.{slice_get_within, slice_get-map, same_Some}
 use Rattle.bv_terms.specs.declared.op.Op.TheVariants as op
 use Rattle.bv_terms.specs.declared.op.TermId.{TermId}
 use Rattle.bv_terms.specs.declared.value.Sort.{Sort}
@@ -23,7 +22,7 @@ use Rattle.bv_terms.specs.Table.{Table, terms_of, term_in, term_at}
 use Rattle.isel_spec.specs.declared.definitions.OpDef.{OpDef}
 use Rattle.isel_spec.specs.declared.definitions.GoalDef.{GoalDef}
 use Rattle.isel_spec.specs.declared.spec.Spec.{Spec}
-use Rattle.isel_spec.specs.File.{Operation, Goal, operation, goal, scope, stays_in, all_stay_in, are_sound, is_between, is_sound_op, is_sound_goal, is_sound}
+use Rattle.isel_spec.specs.File.{Operation, Goal, operation, goal, scope, stays_in, all_stay_in, are_sound, is_between, is_sound_op, is_sound_goal}
 use Rattle.isel_spec.specs.Spec.{file}
 use Rattle.isel_spec.specs.Form.{bits_of}
 use Rattle.isel_cmd.specs.declared.enumeration.cases.Case.{Case}

@@ -1,6 +1,5 @@
-use Rattle.std.proofs.Common.{ℕ, List, ◌≡◌, ◌∙◌, ◌++◌, ◌<◌, sym, ap, subst, map, filter, length, All}
+use Rattle.std.proofs.Common.{ℕ, List, ◌∙◌, ◌++◌, ◌<◌, sym, ap, subst, map, filter, length, All}
 use Rattle.std.proofs.lemmas.List.{append-nil, take_all}
-use Rattle.bv_terms.specs.declared.value.Sort.{Sort}
 use Rattle.bv_terms.specs.Sorts.{InputsFit}
 use Rattle.bv_terms.specs.Table.{term_at}
 use Rattle.pattern_core.specs.declared.pattern.Pattern.{Pattern}
@@ -8,7 +7,6 @@ use Rattle.isel_cmd.specs.declared.enumeration.cases.Case.{Case}
 use Rattle.isel_cmd.specs.Candidates.{tuples, operation_pattern}
 use Rattle.isel_cmd.specs.Cases.{term_agrees, input_at}
 use Rattle.isel_cmd.proofs.SoundLemmas.{IsSoundOp_at, IsOperationAt-from_definition}
-use Rattle.isel_cmd.proofs.TupleLemmas.{Fit}
 use Rattle.isel_cmd.proofs.TriedLemmas.{tuple_fits, tuple_within, inputs_fit, no_operation_rules, operation_rules_are}
 use Rattle.isel_cmd.proofs.enumeration.add_operation_rules.Goals as goal
 

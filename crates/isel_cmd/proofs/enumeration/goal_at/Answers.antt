@@ -1,5 +1,3 @@
-use Rattle.std.proofs.Common.{Bor, ℕ, List}
-use Rattle.isel_spec.specs.declared.definitions.GoalDef.{GoalDef}
 use Rattle.isel_cmd.proofs.SoundLemmas.{looked_up}
 use Rattle.isel_cmd.proofs.enumeration.goal_at.Goals as goal
 

@@ -1,5 +1,3 @@
-use Rattle.std.proofs.Common.{Bor, ℕ, List}
-use Rattle.isel_spec.specs.declared.definitions.OpDef.{OpDef}
 use Rattle.isel_cmd.proofs.SoundLemmas.{looked_up}
 use Rattle.isel_cmd.proofs.enumeration.operation_at.Goals as goal
 

@@ -1,8 +1,8 @@
-use Rattle.std.proofs.Common.{ℕ, List, ◌≡◌, ◌∙◌, ap}
+use Rattle.std.proofs.Common.{List, ◌∙◌, ap}
 use Rattle.bv_terms.specs.declared.value.Sort.{Sort}
 use Rattle.bv_terms.specs.Table.{term_at}
 use Rattle.isel_cmd.specs.Cases.{cases_of}
-use Rattle.isel_cmd.proofs.SoundLemmas.{IsSoundGoal_at, IsGoalAt, IsGoalAt-from_sorts, InputsFit-numbered, IsWanted-from_goal, IsTried-from_goal}
+use Rattle.isel_cmd.proofs.SoundLemmas.{IsSoundGoal_at, IsGoalAt-from_sorts, InputsFit-numbered, IsWanted-from_goal, IsTried-from_goal}
 use Rattle.isel_cmd.proofs.enumeration.wanted_by.Goals as goal
 
 pub first-result-requires : goal.first-result-requires

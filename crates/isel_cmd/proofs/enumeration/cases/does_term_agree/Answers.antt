@@ -1,5 +1,4 @@
-use Rattle.std.proofs.Common.{All, ◌<◌, length, ◌∙◌, map, ap, sym, ℕ, List, subst, arith}
-use Rattle.std.proofs.lemmas.Grind.{common_steps}
+use Rattle.std.proofs.Common.{All, ◌<◌, length, ◌∙◌, map, ap, sym, ℕ, List, subst}
 use Rattle.bv_terms.specs.declared.value.Value.{Value}
 use Rattle.bv_terms.specs.Term.{value}
 use Rattle.bv_terms.specs.Sorts.{InputsFit}

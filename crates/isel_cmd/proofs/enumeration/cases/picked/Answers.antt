@@ -1,4 +1,4 @@
-use Rattle.std.proofs.Common.{◌<◌, ◌≡◌, length, get_or, arith}
+use Rattle.std.proofs.Common.{arith}
 use Rattle.std.proofs.lemmas.Grind.{common_steps}
 use Rattle.isel_cmd.proofs.ReadLemmas.{get_or-input_at}
 use Rattle.isel_cmd.proofs.enumeration.cases.picked.Goals as goal
