@@ -4,3 +4,6 @@ pub mod Text
 pub mod Words
 pub mod Command
 pub mod Program
+pub mod Enumeration
+pub mod Cases
+pub mod Candidates

@@ -1,8 +1,10 @@
 //! The commands of the program, over a source of files and two sinks that are handed in.
 #![tactic(auto)]
 
+mod enumeration;
 pub mod outside;
 mod text;
 mod words;
 
+pub use enumeration::search;
 pub use words::{Command, parse};
