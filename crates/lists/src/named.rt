@@ -1,7 +1,8 @@
-ghost use Rattle.std.specs.Prelude.{◌≡◌, [], length, slice_get, option_map};
+ghost use Rattle.std.specs.Prelude.{◌≡◌, ◌↔◌, [], ◌∷◌, ◌++◌, length, map, slice_get, option_map, Contains, IsTrue, OnOk, OnErr};
+ghost use Rattle.std.specs.String.{string_bytes};
 
 use indexmap::IndexMap;
-use std::alloc::Global;
+use std::alloc::{AllocError, Global};
 use std::marker::Model;
 
 /// A table of values under names that differ, in the order in which they were added. Contracts see
@@ -48,5 +49,24 @@ impl<T> Named<T> {
             Some((name, value)) => Some((name.as_str(), value)),
             None => None,
         }
+    }
+
+    /// Whether a name stands in the table.
+    pub fn contains(&self, name: &str) -> bool
+        ensures { IsTrue result ↔ Contains (map (λ e. e.0) self.now) name.now }
+    {
+        self.entries.contains_key(name)
+    }
+}
+
+impl<T: Drop> Named<T> {
+    /// Adds a value under a new name. An `Err` is want of memory; it leaves the table as it was.
+    pub fn insert(&mut self, name: String, value: T) -> Result<(), AllocError>
+        requires { ¬ Contains (map (λ e. e.0) self.old) (string_bytes name) }
+        ensures ok { OnOk result (self.new ≡ self.old ++ (string_bytes name, value) ∷ []) }
+        ensures err { OnErr result (self.new ≡ self.old) }
+    {
+        self.entries.insert(name, value)?;
+        Ok(())
     }
 }
