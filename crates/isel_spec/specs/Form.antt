@@ -6,6 +6,7 @@
 --   TERM      := NAME | literal | (OPERATOR TERM*)             well-sorted
 use Rattle.std.specs.Prelude.{◌≡◌, ℕ, ◌+◌, ◌^◌, ◌≤◌, List, [], ◌∷◌, length, map, sum, Option, Some, None, Bool, true, false, ◌&&◌, not, nat_le, if◌then◌else◌, codes, option_and_then, option_map, is_some, Contains, ◌⊎◌, IsTrue}
 use Rattle.std.specs.List.{list_all, list_any}
+use Rattle.std.specs.Str.{bytes_eq}
 use Rattle.bv_terms.specs.declared.op.Op.{Op}
 use Rattle.bv_terms.specs.declared.op.Op.TheVariants as op
 use Rattle.bv_terms.specs.declared.value.Sort.{Sort}
@@ -17,7 +18,7 @@ use Rattle.sexp_read.specs.Tree.{Tree, Trees, Word, Branch, End, Then, flatten, 
 use Rattle.sexp_read.specs.Token.{is_text_byte, tokens}
 use Rattle.isel_spec.specs.declared.definitions.Kind.TheVariants as kind
 use Rattle.isel_spec.specs.File.{File, Operation, Goal, is_between}
-use Rattle.isel_spec.specs.Text.{same_bytes, numeral, is_name, literal}
+use Rattle.isel_spec.specs.Text.{numeral, is_name, literal}
 
 -- the value, where a condition holds
 abbrev pub where_true : {A : Type 0} → Bool → A → Option A
@@ -27,12 +28,12 @@ where_true false x = None
 -- the operators of the form
 abbrev pub operator : List ℕ → Option Op
 operator bytes =
-    if same_bytes bytes (codes "bvnot") then Some op.BvNot
-    else if same_bytes bytes (codes "bvand") then Some op.BvAnd
-    else if same_bytes bytes (codes "bvor") then Some op.BvOr
-    else if same_bytes bytes (codes "bvxor") then Some op.BvXor
-    else if same_bytes bytes (codes "bvadd") then Some op.BvAdd
-    else if same_bytes bytes (codes "bvsub") then Some op.BvSub
+    if bytes_eq bytes (codes "bvnot") then Some op.BvNot
+    else if bytes_eq bytes (codes "bvand") then Some op.BvAnd
+    else if bytes_eq bytes (codes "bvor") then Some op.BvOr
+    else if bytes_eq bytes (codes "bvxor") then Some op.BvXor
+    else if bytes_eq bytes (codes "bvadd") then Some op.BvAdd
+    else if bytes_eq bytes (codes "bvsub") then Some op.BvSub
     else None
 
 -- a name and the sort of what it stands for
@@ -42,7 +43,7 @@ Binding = List ℕ × Sort
 -- the input that a name stands for, where the names from that number on are these
 abbrev pub input_named : ℕ → List Binding → List ℕ → Option Op
 input_named number [] name = None
-input_named number (b ∷ bs) name = if same_bytes b.0 name then Some (op.Input number b.1) else input_named (number + 1) bs name
+input_named number (b ∷ bs) name = if bytes_eq b.0 name then Some (op.Input number b.1) else input_named (number + 1) bs name
 
 abbrev pub option_or : {A : Type 0} → Option A → Option A → Option A
 option_or (Some x) other = Some x
@@ -68,7 +69,7 @@ abbrev mutual
 -- `(_ BitVec W)`
 abbrev pub sort_in : Tree → Option Sort
 sort_in (Branch _ _ (Then (Word _ underscore) (Then (Word _ family) (Then (Word _ width) End)))) =
-    if same_bytes underscore (codes "_") && same_bytes family (codes "BitVec")
+    if bytes_eq underscore (codes "_") && bytes_eq family (codes "BitVec")
     then option_map (λ w. sort.Bits w) (numeral 1 64 width)
     else None
 sort_in _ = None
@@ -85,7 +86,7 @@ arg_in _ = None
 -- `(reg NAME SORT)`
 abbrev pub goal_arg_in : Tree → Option Binding
 goal_arg_in (Branch _ _ (Then (Word _ reg) (Then (Word _ name) (Then s End)))) =
-    if same_bytes reg (codes "reg") then binding name (sort_in s) else None
+    if bytes_eq reg (codes "reg") then binding name (sort_in s) else None
 goal_arg_in _ = None
 
 -- what each of the trees gives, where each gives something
@@ -96,7 +97,7 @@ each_in f (Then t ts) = option_and_then (λ y. option_and_then (λ ys. Some (y �
 -- no two are equal
 abbrev pub differ : List (List ℕ) → Bool
 differ [] = true
-differ (name ∷ names) = not (list_any (same_bytes name) names) && differ names
+differ (name ∷ names) = not (list_any (bytes_eq name) names) && differ names
 
 -- at most four arguments, under names that differ
 abbrev pub scope_of : Option (List Binding) → Option (List Binding)
@@ -110,7 +111,7 @@ definition_named name make (Some bs) t = option_and_then (λ result. where_true 
 -- `(op NAME (arg*) () (TERM))`
 abbrev pub operation_in : Tree → Option Operation
 operation_in (Branch _ _ (Then (Word _ head) (Then (Word _ name) (Then (Branch _ _ args) (Then (Branch _ _ End) (Then (Branch _ _ (Then t End)) End)))))) =
-    if same_bytes head (codes "op")
+    if bytes_eq head (codes "op")
     then definition_named name (λ bs result. record { name = name; args = map (λ b. b.1) bs; attrs = []; results = result ∷ [] })
     (scope_of (each_in arg_in args)) t
     else None
@@ -119,7 +120,7 @@ operation_in _ = None
 -- `(goal NAME (garg*) COST (TERM))`
 abbrev pub goal_in : Tree → Option Goal
 goal_in (Branch _ _ (Then (Word _ head) (Then (Word _ name) (Then (Branch _ _ args) (Then (Word _ cost) (Then (Branch _ _ (Then t End)) End)))))) =
-    if same_bytes head (codes "goal")
+    if bytes_eq head (codes "goal")
     then option_and_then (λ c. definition_named name
     (λ bs result. record { name = name; kinds = map (λ b. kind.Reg) bs; args = map (λ b. b.1) bs; cost = c; results = result ∷ [] })
     (scope_of (each_in goal_arg_in args)) t) (numeral 0 65535 cost)
@@ -146,7 +147,7 @@ goals (OfGoal g ∷ items) = g ∷ goals items
 -- `(isel-spec 1 P)`
 abbrev pub pointer_in : Tree → Option ℕ
 pointer_in (Branch _ _ (Then (Word _ head) (Then (Word _ version) (Then (Word _ pointer) End)))) =
-    if same_bytes head (codes "isel-spec") && same_bytes version (codes "1") then numeral 1 64 pointer else None
+    if bytes_eq head (codes "isel-spec") && bytes_eq version (codes "1") then numeral 1 64 pointer else None
 pointer_in _ = None
 
 -- how many values of the sort there are, as bits

@@ -3,6 +3,7 @@
 
 mod definitions;
 mod spec;
+mod words;
 
 pub use definitions::{GoalDef, Kind, OpDef};
 pub use spec::Spec;
