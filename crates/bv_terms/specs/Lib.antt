@@ -1,3 +1,4 @@
 pub mod Term
 pub mod Sorts
 pub mod Table
+pub mod Node

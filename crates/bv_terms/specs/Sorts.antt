@@ -62,16 +62,14 @@ is_indexed (op.Input k (sort.Bits w)) = is_width w
 is_indexed (op.Bits w n) = is_width w && nat_lt n (2 ^ w)
 is_indexed _ = true
 
+-- the fault of a misfit, and else of the indices
+abbrev pub fault_of : Op → Option ℕ → Option MakeFault
+fault_of o (Some place) = Some (fault.Sorts place)
+fault_of o None = if is_indexed o then None else Some fault.Index
+
 -- why an operation cannot stand over arguments of these sorts; the first cause in this order
 abbrev pub refusal : Op → List Sort → Option MakeFault
-refusal o ss =
-    if length ss == arity o
-    then option_or_index (misfit ss)
-    else Some fault.Arity
-  where
-    option_or_index : Option ℕ → Option MakeFault
-    option_or_index (Some place) = Some (fault.Sorts place)
-    option_or_index None = if is_indexed o then None else Some fault.Index
+refusal o ss = if length ss == arity o then fault_of o (misfit ss) else Some fault.Arity
 
 -- the sort of an operation over arguments of sorts that fit
 abbrev pub result_sort : Op → List Sort → Sort
@@ -80,12 +78,13 @@ result_sort (op.Bits w n) ss = sort.Bits w
 result_sort o (s ∷ ss) = s
 result_sort o [] = sort.Bool
 
+-- a sort, where there is no fault
+abbrev pub sort_unless : Option MakeFault → Sort → Option Sort
+sort_unless (Some f) s = None
+sort_unless None s = Some s
+
 abbrev pub op_sort : Op → List Sort → Option Sort
-op_sort o ss = sort_unless (refusal o ss)
-  where
-    sort_unless : Option MakeFault → Option Sort
-    sort_unless (Some f) = None
-    sort_unless None = Some (result_sort o ss)
+op_sort o ss = sort_unless (refusal o ss) (result_sort o ss)
 
 -- the sort of a well-sorted term, and none for any other
 unfoldable mutual

@@ -1,10 +1,11 @@
 -- A table of nodes, each over earlier ones, and the terms that it denotes, one a node.
-use Rattle.std.specs.Prelude.{◌≡◌, ℕ, ◌<◌, ◌≤◌, List, [], ◌∷◌, ◌++◌, Some, IsSome, slice_get, unwrap_or, All}
+use Rattle.std.specs.Prelude.{◌≡◌, ℕ, ◌<◌, ◌≤◌, ◌⊎◌, List, [], ◌∷◌, ◌++◌, Option, Some, IsSome, slice_get, unwrap_or, option_and_then, All, Contains}
 use Rattle.bv_terms.specs.declared.op.Op.{Op}
 use Rattle.bv_terms.specs.declared.op.Op.TheVariants as op
+use Rattle.bv_terms.specs.declared.op.MakeFault.{MakeFault}
 use Rattle.bv_terms.specs.declared.op.TermId.{TermId}
 use Rattle.bv_terms.specs.Term.{Term, Operands, Apply, End, Then}
-use Rattle.bv_terms.specs.Sorts.{sort_of}
+use Rattle.bv_terms.specs.Sorts.{refusal, sort_of, sorts_of}
 
 -- a node: an operation over nodes
 pub record Entry : Type 0 where
@@ -44,3 +45,12 @@ pub record IsTable (table : Table) : Type 0 where
   pub earlier : (k : ℕ) (e : Entry) → slice_get table.nodes k ≡ Some e → All (λ a. a.0 < k) e.args
   pub well_sorted : (k : ℕ) (t : Term) → slice_get (terms_of table) k ≡ Some t → IsSome (sort_of t)
   pub distinct : (j k : ℕ) (e : Entry) → slice_get table.nodes j ≡ Some e → slice_get table.nodes k ≡ Some e → j ≡ k
+
+-- why an operation cannot stand over these nodes, where it cannot
+abbrev pub make_refusal : Table → Op → List TermId → Option MakeFault
+make_refusal table o args = option_and_then (refusal o) (sorts_of (operands (terms_of table) args))
+
+-- new has the node in this place: it is old where old has the node already, and else old with the node at its end
+pub record Makes (old : Table) (e : Entry) (new : Table) (id : TermId) : Type 0 where
+  pub stands : slice_get new.nodes id.0 ≡ Some e
+  pub nodes : (Contains old.nodes e × (new ≡ old)) ⊎ ((¬ (Contains old.nodes e)) × (new ≡ record old { nodes = old.nodes ++ e ∷ [] }))

@@ -3,6 +3,7 @@
 //! The meanings are those of SMT-LIB 2.6, theories Core and FixedSizeBitVectors and the logic QF_BV.
 #![tactic(auto)]
 
+mod node;
 mod op;
 mod terms;
 mod value;

@@ -1,3 +1,6 @@
+ghost use Rattle.std.specs.Prelude.{◌≡◌};
+ghost use Rattle.bv_terms.specs.Sorts.{arity};
+
 use crate::value::Sort;
 
 /// The number of a node in a table of terms.
@@ -30,4 +33,17 @@ pub enum MakeFault {
     Index,
     /// Want of memory.
     NoMemory,
+}
+
+impl Op {
+    /// How many arguments the operation has.
+    pub fn arity(&self) -> usize
+        ensures { result ≡ arity self.now }
+    {
+        match self {
+            Op::Input { .. } | Op::Bits { .. } => 0,
+            Op::BvNot => 1,
+            Op::BvAnd | Op::BvOr | Op::BvXor | Op::BvAdd | Op::BvSub => 2,
+        }
+    }
 }

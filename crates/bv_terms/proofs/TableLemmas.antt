@@ -1,0 +1,104 @@
+-- The terms that a table denotes, node by node, and after a node is added.
+use Rattle.std.proofs.Common.{◌≡◌, ℕ, zero, suc, ◌+◌, ◌<◌, List, [], ◌∷◌, ◌++◌, length, slice_get, unwrap_or, Some, All, refl, sym, ap, ◌∙◌, arith, length-append}
+use Rattle.std.specs.List.{AllByRecursion}
+use Rattle.std.proofs.lemmas.List.Elements.{recursion_from_All}
+use Rattle.std.proofs.lemmas.Option.{same_Some}
+use Rattle.bv_terms.specs.declared.op.TermId.{TermId}
+use Rattle.bv_terms.specs.Term.{Term, Apply, Then}
+use Rattle.bv_terms.specs.Table.{Entry, Table, term_in, operands, terms_from, terms_of, term_at, IsTable}
+
+-- ---- places of a list
+
+pub slice_get-append : {A : Type 0} (xs ys : List A) (k : ℕ) → k < length xs → slice_get (xs ++ ys) k ≡ slice_get xs k
+slice_get-append [] ys k h = absurd (omega arith)
+slice_get-append (x ∷ xs) ys zero h = refl
+slice_get-append (x ∷ xs) ys (suc k) h = slice_get-append xs ys k (omega arith)
+
+pub slice_get-at_end : {A : Type 0} (xs : List A) (y : A) (ys : List A) (k : ℕ) → k ≡ length xs → slice_get (xs ++ y ∷ ys) k ≡ Some y
+slice_get-at_end [] y ys zero e = refl
+slice_get-at_end [] y ys (suc k) e = absurd (omega arith)
+slice_get-at_end (x ∷ xs) y ys zero e = absurd (omega arith)
+slice_get-at_end (x ∷ xs) y ys (suc k) e = slice_get-at_end xs y ys k (omega arith)
+
+-- a list, cut round the element in a place
+pub record IsCut {A : Type 0} (xs : List A) (k : ℕ) (x : A) : Type 0 where
+  pub front : List A
+  pub back : List A
+  pub whole : xs ≡ front ++ x ∷ back
+  pub place : length front ≡ k
+
+pub IsCut-at : {A : Type 0} (xs : List A) (k : ℕ) (x : A) → slice_get xs k ≡ Some x → IsCut xs k x
+IsCut-at [] k x h = cc
+IsCut-at (y ∷ ys) zero x h = record { front = []; back = ys; whole = ap (λ z. z ∷ ys) (same_Some y x h); place = refl }
+IsCut-at (y ∷ ys) (suc k) x h =
+    let rest = IsCut-at ys k x h in
+    record { front = y ∷ rest.front; back = rest.back; whole = ap (λ zs. y ∷ zs) rest.whole; place = ap suc rest.place }
+
+-- ---- the terms of nodes
+
+pub terms_from-append : (ts : List Term) (es fs : List Entry) → terms_from ts (es ++ fs) ≡ terms_from (terms_from ts es) fs
+terms_from-append ts [] fs = refl
+terms_from-append ts (e ∷ es) fs = terms_from-append (ts ++ Apply e.op (operands ts e.args) ∷ []) es fs
+
+pub length-terms_from : (ts : List Term) (es : List Entry) → length (terms_from ts es) ≡ length ts + length es
+length-terms_from ts [] = omega arith
+length-terms_from ts (e ∷ es) =
+    omega (arith, length-terms_from (ts ++ Apply e.op (operands ts e.args) ∷ []) es, length-append ts (Apply e.op (operands ts e.args) ∷ []))
+
+pub slice_get-terms_from : (ts : List Term) (es : List Entry) (k : ℕ) → k < length ts → slice_get (terms_from ts es) k ≡ slice_get ts k
+slice_get-terms_from ts [] k h = refl
+slice_get-terms_from ts (e ∷ es) k h =
+    slice_get-terms_from (ts ++ Apply e.op (operands ts e.args) ∷ []) es k (omega (arith, length-append ts (Apply e.op (operands ts e.args) ∷ [])))
+    ∙ slice_get-append ts (Apply e.op (operands ts e.args) ∷ []) k h
+
+-- operands are the same where their terms are
+pub operands-same : (ts us : List Term) (n : ℕ) → ((k : ℕ) → k < n → term_in ts k ≡ term_in us k) → (args : List TermId) → AllByRecursion (λ a. a.0 < n) args → operands ts args ≡ operands us args
+operands-same ts us n same [] h = refl
+operands-same ts us n same (a ∷ args) h =
+    ap (λ t. Then t (operands ts args)) (same a.0 h.0) ∙ ap (Then (term_in us a.0)) (operands-same ts us n same args h.1)
+
+pub operands-below : (ts us : List Term) (n : ℕ) → ((k : ℕ) → k < n → term_in ts k ≡ term_in us k) → (args : List TermId) → All (λ (a : TermId). a.0 < n) args → operands ts args ≡ operands us args
+operands-below ts us n same args h = operands-same ts us n same args (recursion_from_All (λ (a : TermId). a.0 < n) args h)
+
+pub length-terms_of : (table : Table) → length (terms_of table) ≡ length table.nodes
+length-terms_of table = omega (arith, length-terms_from [] table.nodes)
+
+-- a node's term is its operation over the terms of its arguments
+pub slice_get-terms_of : (table : Table) → IsTable table → (k : ℕ) (e : Entry) → slice_get table.nodes k ≡ Some e
+    → slice_get (terms_of table) k ≡ Some (Apply e.op (operands (terms_of table) e.args))
+slice_get-terms_of table is_table k e h =
+    let cut = IsCut-at table.nodes k e h in
+    let before = terms_from [] cut.front in
+    let term = Apply e.op (operands before e.args) in
+    let place : length before ≡ k = omega (arith, length-terms_from [] cut.front, cut.place) in
+    let whole : terms_of table ≡ terms_from (before ++ term ∷ []) cut.back = ap (terms_from []) cut.whole ∙ terms_from-append [] cut.front (e ∷ cut.back) in
+    let within = λ (j : ℕ) (lt : j < k). ap (λ (ts : List Term). term_in ts j) whole
+    ∙ ap (λ o. unwrap_or o (term_in [] 0)) (slice_get-terms_from (before ++ term ∷ []) cut.back j (omega (arith, length-append before (term ∷ []))) ∙ slice_get-append before (term ∷ []) j (omega arith)) in
+    ap (λ (ts : List Term). slice_get ts k) whole
+    ∙ slice_get-terms_from (before ++ term ∷ []) cut.back k (omega (arith, length-append before (term ∷ [])))
+    ∙ slice_get-at_end before term [] k (sym place)
+    ∙ ap (λ ts. Some (Apply e.op ts)) (sym (operands-below (terms_of table) before k within e.args (is_table.earlier k e h)))
+
+pub term_at-node : (table : Table) → IsTable table → (at : TermId) (e : Entry) → slice_get table.nodes at.0 ≡ Some e
+    → term_at table at ≡ Apply e.op (operands (terms_of table) e.args)
+term_at-node table is_table at e h = ap (λ o. unwrap_or o (term_in [] 0)) (slice_get-terms_of table is_table at.0 e h)
+
+-- ---- a node added at the end
+
+abbrev pub table_with : Table → Entry → Table
+table_with table e = record { pointer = table.pointer; nodes = table.nodes ++ e ∷ [] }
+
+pub terms_of-push : (table : Table) (e : Entry) → terms_of (table_with table e) ≡ terms_of table ++ Apply e.op (operands (terms_of table) e.args) ∷ []
+terms_of-push table e = terms_from-append [] table.nodes (e ∷ [])
+
+-- earlier nodes keep their terms
+pub term_at-push : (table : Table) (e : Entry) (at : TermId) → at.0 < length table.nodes → term_at (table_with table e) at ≡ term_at table at
+term_at-push table e at h =
+    ap (λ (ts : List Term). term_in ts at.0) (terms_of-push table e)
+    ∙ ap (λ o. unwrap_or o (term_in [] 0)) (slice_get-append (terms_of table) (Apply e.op (operands (terms_of table) e.args) ∷ []) at.0 (omega (arith, length-terms_of table)))
+
+-- and the new one is its operation over the terms that its arguments had
+pub term_at-pushed : (table : Table) (e : Entry) (at : TermId) → at.0 ≡ length table.nodes → term_at (table_with table e) at ≡ Apply e.op (operands (terms_of table) e.args)
+term_at-pushed table e at h =
+    ap (λ (ts : List Term). term_in ts at.0) (terms_of-push table e)
+    ∙ ap (λ o. unwrap_or o (term_in [] 0)) (slice_get-at_end (terms_of table) (Apply e.op (operands (terms_of table) e.args)) [] at.0 (omega (arith, length-terms_of table)))
