@@ -2,3 +2,4 @@ pub mod File
 pub mod Spec
 pub mod Text
 pub mod Form
+pub mod Items

@@ -3,6 +3,7 @@
 
 mod definitions;
 mod spec;
+mod subject;
 mod words;
 
 pub use definitions::{GoalDef, Kind, OpDef};

@@ -78,7 +78,8 @@ fn is_numeral(word: &[u8]) -> bool
 /// A numeral between two numbers.
 pub fn numeral(low: u64, high: u64, word: &[u8]) -> Option<u64>
     requires { high < 2 ^ 32 }
-    ensures { result ≡ numeral low high word.now }
+    ensures value { result ≡ numeral low high word.now }
+    ensures bounded { IfSome result (λ number. (low ≤ number) × (number ≤ high)) }
 {
     if !is_numeral(word) {
         return None;

@@ -1,0 +1,8 @@
+-- The items of a forest, looked at as the trees that they stand for.
+use Rattle.std.specs.Prelude.{ℕ, List}
+use Rattle.sexp_read.specs.declared.forest.Item.{Item}
+use Rattle.sexp_read.specs.Forest.{atom_at, children_at}
+use Rattle.isel_spec.specs.Form.{View}
+
+abbrev pub item_view : List ℕ → List Item → View ℕ
+item_view bytes items = record { word = atom_at bytes items; members = children_at items }
