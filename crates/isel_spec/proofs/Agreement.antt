@@ -184,13 +184,13 @@ pub record StandsFor (bytes : List ℕ) (items : List Item) (read : Parts ℕ) (
 cost_agrees : (subject : Subject) (bytes : List ℕ) (items : List Item) (number : ℕ) (tree : Tree) → Denotes bytes items number tree →
     cost_in subject (item_view bytes items) number ≡ cost_in subject tree_view tree
 cost_agrees Operation bytes items number tree d =
-    bind_agree (AllZip (Denotes bytes items)) (children_at items number) (members_in tree) none_of none_of (members_agree bytes items number tree d) (λ ns ts ds. no_members ns ts ds)
+    bind_agree (AllZip (Denotes bytes items)) (children_at items number) (members_in tree) none_of none_of (members_agree bytes items number tree d) (no_members (Denotes bytes items))
   where
-    no_members : {R : ℕ → Tree → Type 0} (ns : List ℕ) (ts : List Tree) → AllZip R ns ts → none_of ns ≡ none_of ts
-    no_members [] [] r = refl
-    no_members [] (t ∷ ts) r = absurd r
-    no_members (n ∷ ns) [] r = absurd r
-    no_members (n ∷ ns) (t ∷ ts) r = refl
+    no_members : (R : ℕ → Tree → Type 0) (ns : List ℕ) (ts : List Tree) → AllZip R ns ts → none_of ns ≡ none_of ts
+    no_members R [] [] r = refl
+    no_members R [] (t ∷ ts) r = absurd r
+    no_members R (n ∷ ns) [] r = absurd r
+    no_members R (n ∷ ns) (t ∷ ts) r = refl
 cost_agrees Goal bytes items number tree d = rw (words_agree bytes items number tree d) refl
 
 pub parts_agree : (subject : Subject) (bytes : List ℕ) (items : List Item) (numbers : List ℕ) (trees : List Tree) → AllZip (Denotes bytes items) numbers trees →

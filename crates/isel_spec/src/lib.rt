@@ -2,6 +2,7 @@
 #![tactic(auto)]
 
 mod definitions;
+mod parts;
 mod spec;
 mod subject;
 mod words;
