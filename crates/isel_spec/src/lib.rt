@@ -2,6 +2,7 @@
 #![tactic(auto)]
 
 mod definitions;
+mod part_lists;
 mod parts;
 mod spec;
 mod subject;
