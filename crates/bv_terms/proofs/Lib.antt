@@ -1,3 +1,5 @@
 pub mod TermLemmas
 pub mod TableLemmas
+pub mod NodeLemmas
 pub mod KeptLemmas
+pub mod MakeLemmas

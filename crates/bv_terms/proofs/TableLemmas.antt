@@ -1,11 +1,13 @@
 -- The terms that a table denotes, node by node, and after a node is added.
-use Rattle.std.proofs.Common.{◌≡◌, ℕ, zero, suc, ◌+◌, ◌<◌, List, [], ◌∷◌, ◌++◌, length, slice_get, unwrap_or, Some, All, refl, sym, ap, ◌∙◌, arith, length-append}
+use Rattle.std.proofs.Common.{subst, Option, IsSome, ◌⊎◌, inl, inr, ⊎_elim, Contains, ◌≡◌, ℕ, zero, suc, ◌+◌, ◌<◌, List, [], ◌∷◌, ◌++◌, length, slice_get, unwrap_or, Some, All, refl, sym, ap, ◌∙◌, arith, length-append}
 use Rattle.std.specs.List.{AllByRecursion}
 use Rattle.std.proofs.lemmas.List.Elements.{recursion_from_All}
-use Rattle.std.proofs.lemmas.Option.{same_Some}
+use Rattle.std.proofs.lemmas.Option.{get_or_from_slice_get, slice_get_within, same_Some}
 use Rattle.bv_terms.specs.declared.op.TermId.{TermId}
+use Rattle.bv_terms.specs.declared.value.Sort.{Sort}
 use Rattle.bv_terms.specs.Term.{Term, Apply, Then}
-use Rattle.bv_terms.specs.Table.{Entry, Table, term_in, operands, terms_from, terms_of, term_at, IsTable}
+use Rattle.bv_terms.specs.Sorts.{sort_of}
+use Rattle.bv_terms.specs.Table.{Entry, Table, term_in, operands, terms_from, terms_of, term_at, table_with, IsTable}
 
 -- ---- places of a list
 
@@ -85,9 +87,6 @@ term_at-node table is_table at e h = ap (λ o. unwrap_or o (term_in [] 0)) (slic
 
 -- ---- a node added at the end
 
-abbrev pub table_with : Table → Entry → Table
-table_with table e = record { pointer = table.pointer; nodes = table.nodes ++ e ∷ [] }
-
 pub terms_of-push : (table : Table) (e : Entry) → terms_of (table_with table e) ≡ terms_of table ++ Apply e.op (operands (terms_of table) e.args) ∷ []
 terms_of-push table e = terms_from-append [] table.nodes (e ∷ [])
 
@@ -102,3 +101,32 @@ pub term_at-pushed : (table : Table) (e : Entry) (at : TermId) → at.0 ≡ leng
 term_at-pushed table e at h =
     ap (λ (ts : List Term). term_in ts at.0) (terms_of-push table e)
     ∙ ap (λ o. unwrap_or o (term_in [] 0)) (slice_get-at_end (terms_of table) (Apply e.op (operands (terms_of table) e.args)) [] at.0 (omega (arith, length-terms_of table)))
+
+-- the places of a list with one more element
+pub push_cases : {A : Type 0} (xs : List A) (y : A) (k : ℕ) (x : A) → slice_get (xs ++ y ∷ []) k ≡ Some x → ((k < length xs) × (slice_get xs k ≡ Some x)) ⊎ ((k ≡ length xs) × (y ≡ x))
+push_cases [] y zero x h = inr (refl, same_Some y x h)
+push_cases [] y (suc k) x h = cc
+push_cases (z ∷ zs) y zero x h = inl (omega arith, h)
+push_cases (z ∷ zs) y (suc k) x h = ⊎_elim (λ w. inl (omega (arith, w.0), w.1)) (λ w. inr (ap suc w.0, w.1)) (push_cases zs y k x h)
+
+Contains-at : {A : Type 0} (xs : List A) (k : ℕ) (x : A) → slice_get xs k ≡ Some x → Contains xs x
+Contains-at xs k x h = (k, slice_get_within xs k x h, get_or_from_slice_get xs k x x h)
+
+some-is : {A : Type 0} (o : Option A) (x : A) → o ≡ Some x → IsSome o
+some-is o x h = subst IsSome (sym h) refl
+
+-- a table with a new node over its nodes, well-sorted, is a table
+pub IsTable-push : (table : Table) → IsTable table → (e : Entry) (s : Sort) → All (λ (a : TermId). a.0 < length table.nodes) e.args
+    → sort_of (Apply e.op (operands (terms_of table) e.args)) ≡ Some s → ¬ (Contains table.nodes e) → IsTable (table_with table e)
+IsTable-push table is e s below sorted new = record {
+  wide = is.wide;
+  narrow = is.narrow;
+  earlier = λ k f h. ⊎_elim (λ w. is.earlier k f w.1)
+      (λ w. subst (λ (f : Entry). All (λ (a : TermId). a.0 < k) f.args) w.1 (subst (λ n. All (λ (a : TermId). a.0 < n) e.args) (sym w.0) below)) (push_cases table.nodes e k f h);
+  well_sorted = λ k t h. ⊎_elim (λ w. is.well_sorted k t w.1) (λ w. subst (λ t. IsSome (sort_of t)) w.1 (some-is (sort_of (Apply e.op (operands (terms_of table) e.args))) s sorted))
+      (push_cases (terms_of table) (Apply e.op (operands (terms_of table) e.args)) k t (ap (λ (ts : List Term). slice_get ts k) (sym (terms_of-push table e)) ∙ h));
+  distinct = λ j k f g h. ⊎_elim
+      (λ v. ⊎_elim (λ w. is.distinct j k f v.1 w.1) (λ w. absurd (new (Contains-at table.nodes j e (v.1 ∙ ap Some (sym w.1))))) (push_cases table.nodes e k f h))
+      (λ v. ⊎_elim (λ w. absurd (new (Contains-at table.nodes k e (w.1 ∙ ap Some (sym v.1))))) (λ w. v.0 ∙ sym w.0) (push_cases table.nodes e k f h))
+      (push_cases table.nodes e j f g);
+}

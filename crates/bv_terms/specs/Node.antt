@@ -1,16 +1,14 @@
 -- How a node is kept: with as many places as any operation has arguments.
 use Rattle.std.specs.Prelude.{◌≡◌, ℕ, ◌-◌, List, ◌++◌, length, map, replicate, take, Some}
-use Rattle.bv_terms.specs.declared.op.Op.{Op}
-use Rattle.bv_terms.specs.declared.op.TermId.{TermId}
 use Rattle.bv_terms.specs.declared.node.Node.{Node}
 use Rattle.bv_terms.specs.declared.node.TheConstants.{MOST_ARGS}
 use Rattle.bv_terms.specs.declared.value.Sort.{Sort}
 use Rattle.bv_terms.specs.Sorts.{arity, sort_of}
 use Rattle.bv_terms.specs.Table.{Entry, Table, terms_of, IsTable}
 
--- the node of an operation over arguments, with node 0 in the places that are left
-abbrev pub node_of : Op → List TermId → Node
-node_of op args = record { op = op; args = args ++ replicate (MOST_ARGS - length args) (record { 0 = 0 }) }
+-- an entry as it is kept, with node 0 in the places that are left
+abbrev pub node_of : Entry → Node
+node_of e = record { op = e.op; args = e.args ++ replicate (MOST_ARGS - length e.args) (record { 0 = 0 }) }
 
 -- a kept node, as contracts see it
 abbrev pub entry_of : Node → Entry
@@ -23,5 +21,5 @@ table_of pointer kept = record { pointer = pointer; nodes = map (λ e. entry_of 
 -- what nodes with their sorts keep: they make a table, unused places have node 0, and each sort is that of the node's term
 pub record IsKept (pointer : ℕ) (kept : List (Node × Sort)) : Type 0 where
   pub table : IsTable (table_of pointer kept)
-  pub padded : map (λ e. e.0) kept ≡ map (λ (e : Node × Sort). node_of e.0.op (take (arity e.0.op) e.0.args)) kept
+  pub padded : map (λ e. e.0) kept ≡ map node_of (table_of pointer kept).nodes
   pub sorts : map (λ e. Some e.1) kept ≡ map sort_of (terms_of (table_of pointer kept))

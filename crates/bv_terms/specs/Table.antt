@@ -50,7 +50,11 @@ pub record IsTable (table : Table) : Type 0 where
 abbrev pub make_refusal : Table → Op → List TermId → Option MakeFault
 make_refusal table o args = option_and_then (refusal o) (sorts_of (operands (terms_of table) args))
 
+-- the table with a node at its end
+abbrev pub table_with : Table → Entry → Table
+table_with table e = record { pointer = table.pointer; nodes = table.nodes ++ e ∷ [] }
+
 -- new has the node in this place: it is old where old has the node already, and else old with the node at its end
 pub record Makes (old : Table) (e : Entry) (new : Table) (id : TermId) : Type 0 where
   pub stands : slice_get new.nodes id.0 ≡ Some e
-  pub nodes : (Contains old.nodes e × (new ≡ old)) ⊎ ((¬ (Contains old.nodes e)) × (new ≡ record old { nodes = old.nodes ++ e ∷ [] }))
+  pub nodes : (Contains old.nodes e × (new ≡ old)) ⊎ ((¬ (Contains old.nodes e)) × (new ≡ table_with old e))

@@ -19,7 +19,7 @@ impl Node {
     /// The node of an operation over these arguments.
     pub(crate) fn new(op: Op, args: &[TermId]) -> Node
         requires { length args.now ≡ arity op }
-        ensures { result ≡ node_of op args.now }
+        ensures { result ≡ node_of (record { op = op; args = args.now }) }
     {
         let mut padded = [TermId(0); MOST_ARGS];
         padded[..args.len()].copy_from_slice(args);

@@ -1,9 +1,11 @@
-ghost use Rattle.std.specs.Prelude.{◌≡◌, ◌<◌, ◌≤◌, [], length, slice_get, Some};
+ghost use Rattle.std.specs.Prelude.{◌≡◌, ◌<◌, ◌≤◌, [], length, slice_get, None, Some, All, Contains, IfOk, IfErr, OnOk, OnErr, MatchOption, MatchResult};
+ghost use Rattle.bv_terms.specs.Term.{Apply};
 ghost use Rattle.bv_terms.specs.Sorts.{sort_of};
-ghost use Rattle.bv_terms.specs.Table.{term_at, IsTable};
+ghost use Rattle.bv_terms.specs.Table.{operands, terms_of, term_at, make_refusal, table_with, IsTable, Makes};
+ghost use Rattle.bv_terms.specs.Node.{entry_of, node_of};
 
 use crate::node::Node;
-use crate::op::{Op, TermId};
+use crate::op::{MakeFault, Op, TermId};
 use crate::value::Sort;
 use indexmap::IndexMap;
 use std::alloc::Global;
@@ -73,5 +75,64 @@ impl Terms {
     {
         let (node, _) = self.nodes.get_index(at.0).unwrap();
         (&node.op, node.args())
+    }
+
+    /// The node of an operation over nodes: the one that is there, or else one added at the end.
+    ///
+    /// The first fault counts: `Arity`, `Sorts`, `Index`. After a fault the table is as it was.
+    pub fn make(&mut self, op: Op, args: &[TermId]) -> Result<TermId, MakeFault>
+        requires { All (λ a. a.0 < length self.old.nodes) args.now }
+        ensures refused { MatchOption (make_refusal self.old op args.now)
+            (IfErr result (λ f. f ≡ MakeFault.NoMemory)) (λ f. result ≡ Err f) }
+        ensures made { IfOk result (Makes self.old (record { op = op; args = args.now }) self.new) }
+        ensures err { OnErr result (self.new ≡ self.old) }
+
+        // What callers use of it.
+        ensures table { IsTable self.new }
+        ensures longer { length self.old.nodes ≤ length self.new.nodes }
+        ensures within { IfOk result (λ id. id.0 < length self.new.nodes) }
+        ensures kept { (at : TermId) → at.0 < length self.old.nodes → term_at self.new at ≡ term_at self.old at }
+        ensures term { IfOk result (λ id. term_at self.new id ≡ Apply op (operands (terms_of self.old) args.now)) }
+        ensures sort { IfOk result (λ id. sort_of (term_at self.new id) ≡ sort_of (Apply op (operands (terms_of self.old) args.now))) }
+    {
+        let sort = self.sort_over(op, args)?;
+        let node = Node::new(op, args);
+        match self.nodes.get_index_of(&node) {
+            Some(place) => Ok(TermId(place)),
+            None => self.add(node, sort),
+        }
+    }
+
+    /// The sort of an operation over nodes, or why it cannot stand over them.
+    fn sort_over(&self, op: Op, args: &[TermId]) -> Result<Sort, MakeFault>
+        requires table { IsTable self.now }
+        requires args { All (λ a. a.0 < length self.now.nodes) args.now }
+        ensures fault { MatchResult result
+            (λ _. make_refusal self.now op args.now ≡ None) (λ f. make_refusal self.now op args.now ≡ Some f) }
+        ensures sort { IfOk result (λ s. sort_of (Apply op (operands (terms_of self.now) args.now)) ≡ Some s) }
+    {
+        match *args {
+            [] => op.sort_over(&[]),
+            [only] => op.sort_over(&[self.sort(only)]),
+            [first, second] => op.sort_over(&[self.sort(first), self.sort(second)]),
+            _ => Err(MakeFault::Arity),
+        }
+    }
+
+    /// Adds a node that is not there. An `Err` is want of memory; it leaves the table as it was.
+    fn add(&mut self, node: Node, sort: Sort) -> Result<TermId, MakeFault>
+        requires padded { node ≡ node_of (entry_of node) }
+        requires earlier { All (λ a. a.0 < length self.old.nodes) (entry_of node).args }
+        requires sorted { sort_of (Apply node.op (operands (terms_of self.old) (entry_of node).args)) ≡ Some sort }
+        requires new { ¬ Contains self.old.nodes (entry_of node) }
+        ensures place { IfOk result (λ id. id.0 ≡ length self.old.nodes) }
+        ensures added { OnOk result (self.new ≡ table_with self.old (entry_of node)) }
+        ensures err { OnErr result (self.new ≡ self.old) }
+        ensures memory { IfErr result (λ f. f ≡ MakeFault.NoMemory) }
+        ensures table { IsTable self.new }
+    {
+        let place = self.nodes.len();
+        self.nodes.insert(node, sort)?;
+        Ok(TermId(place))
     }
 }

@@ -1,3 +1,5 @@
+ghost use Rattle.std.specs.Prelude.{◌≡◌, ◌-◌, ◌^◌, ◌≤◌, min};
+
 use lists::Listed;
 
 /// The kind of a value: a truth value, a bit-vector of so many bits, or a memory.
@@ -19,4 +21,15 @@ pub enum Value {
 #[derive(Debug, Drop)]
 pub struct Env {
     pub values: Listed<Value>,
+}
+
+/// The ones in the places of a bit-vector's bits; for widths of 64 and more, all ones.
+pub(crate) fn mask(width: u8) -> u64
+    ensures { result ≡ 2 ^ min width 64 - 1 }
+{
+    if width < 64 {
+        (1 << width) - 1
+    } else {
+        u64::MAX
+    }
 }
