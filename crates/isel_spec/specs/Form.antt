@@ -122,6 +122,15 @@ infixl 10 ◌>>=◌
 abbrev pub ◌>>=◌ : {A B : Type 0} → Option A → (A → Option B) → Option B
 o >>= f = option_and_then f o
 
+-- `(OPERATOR TERM*)`, as the operator and the arguments
+abbrev pub application_in : {N : Type 0} → View N → N → Option (Op × List N)
+application_in view node = do
+  members ← view.members node
+  first ← first_of members
+  word ← view.word first.0
+  op ← operator word
+  Some (op, first.1)
+
 -- `(_ BitVec W)`
 abbrev pub sort_from : List ℕ → List ℕ → List ℕ → Option Sort
 sort_from underscore family width =

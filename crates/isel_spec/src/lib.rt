@@ -2,10 +2,13 @@
 #![tactic(auto)]
 
 mod definitions;
+mod fault;
 mod part_lists;
 mod parts;
+mod scope;
 mod spec;
 mod subject;
+mod term;
 mod words;
 
 pub use definitions::{GoalDef, Kind, OpDef};

@@ -6,7 +6,7 @@ ghost use Rattle.isel_spec.specs.Items.{item_view, read_parts};
 
 use crate::parts::{Parts, cost, members};
 use crate::subject::Subject;
-use crate::words::is_name;
+use crate::words::name;
 use sexp_read::Forest;
 
 /// `NAME (arg*) () (TERM)` for an operation, `NAME (garg*) COST (TERM)` for a goal.
@@ -22,16 +22,17 @@ pub fn parts<'a>(
     ensures args_in { IfSome result (λ parts. All (λ item. item < length forest.now.items) parts.args.now) }
     ensures result_in { IfSome result (λ parts. parts.result < length forest.now.items) }
 {
-    let [name, args, cost_item, results] = items else {
+    let [word, args, cost_item, results] = items else {
         return None;
     };
-    let name = forest.atom(bytes, *name)?;
+    let word = forest.atom(bytes, *word)?;
     let args = members(bytes, forest, *args)?;
     let cost = cost(subject, bytes, forest, *cost_item)?;
     let [result] = members(bytes, forest, *results)? else {
         return None;
     };
-    is_name(name).then_some(Parts {
+    let name = name(word)?;
+    Some(Parts {
         name,
         args,
         cost,

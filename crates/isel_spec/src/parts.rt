@@ -3,11 +3,11 @@
 ghost use Rattle.std.specs.Prelude.{◌≡◌, ◌<◌, length, option_map, IfSome};
 ghost use Rattle.std.specs.List.{All};
 ghost use Rattle.sexp_read.specs.Forest.{IsReading, children_at};
-ghost use Rattle.isel_spec.specs.Form.{sort_in, arg_in, goal_arg_in, binding_in, cost_in, pointer_in};
+ghost use Rattle.isel_spec.specs.Form.{binding, sort_in, arg_in, goal_arg_in, binding_in, cost_in, pointer_in};
 ghost use Rattle.isel_spec.specs.Items.{item_view};
 
 use crate::subject::Subject;
-use crate::words::{is_name, numeral};
+use crate::words::{name, numeral};
 use bv_terms::Sort;
 use sexp_read::Forest;
 
@@ -40,8 +40,18 @@ fn sort(bytes: &[u8], forest: &Forest, item: usize) -> Option<Sort>
     Some(Sort::Bits(width as u8))
 }
 
+/// A name with a sort, where both are there.
+fn named(word: &[u8], sort: Option<Sort>) -> Option<(&str, Sort)>
+    ensures { option_map (λ found. (found.0.now, found.1)) result ≡ binding word.now sort }
+{
+    match sort {
+        Some(sort) => Some((name(word)?, sort)),
+        None => None,
+    }
+}
+
 /// `(NAME SORT)`
-fn arg<'a>(bytes: &'a [u8], forest: &Forest, item: usize) -> Option<(&'a [u8], Sort)>
+fn arg<'a>(bytes: &'a [u8], forest: &Forest, item: usize) -> Option<(&'a str, Sort)>
     requires reading { IsReading bytes.now forest.now }
     requires item_in { item < length forest.now.items }
     ensures { option_map (λ found. (found.0.now, found.1)) result ≡ arg_in (item_view bytes.now forest.now.items) item }
@@ -50,12 +60,11 @@ fn arg<'a>(bytes: &'a [u8], forest: &Forest, item: usize) -> Option<(&'a [u8], S
         return None;
     };
     let name = forest.atom(bytes, *name)?;
-    let sort = sort(bytes, forest, *sort_item)?;
-    is_name(name).then_some((name, sort))
+    named(name, sort(bytes, forest, *sort_item))
 }
 
 /// `(reg NAME SORT)`
-fn goal_arg<'a>(bytes: &'a [u8], forest: &Forest, item: usize) -> Option<(&'a [u8], Sort)>
+fn goal_arg<'a>(bytes: &'a [u8], forest: &Forest, item: usize) -> Option<(&'a str, Sort)>
     requires reading { IsReading bytes.now forest.now }
     requires item_in { item < length forest.now.items }
     ensures { option_map (λ found. (found.0.now, found.1)) result ≡ goal_arg_in (item_view bytes.now forest.now.items) item }
@@ -68,8 +77,7 @@ fn goal_arg<'a>(bytes: &'a [u8], forest: &Forest, item: usize) -> Option<(&'a [u
     if kind != b"reg".as_slice() {
         return None;
     }
-    let sort = sort(bytes, forest, *sort_item)?;
-    is_name(name).then_some((name, sort))
+    named(name, sort(bytes, forest, *sort_item))
 }
 
 /// An argument's name and sort.
@@ -78,7 +86,7 @@ pub fn binding<'a>(
     bytes: &'a [u8],
     forest: &Forest,
     item: usize,
-) -> Option<(&'a [u8], Sort)>
+) -> Option<(&'a str, Sort)>
     requires reading { IsReading bytes.now forest.now }
     requires item_in { item < length forest.now.items }
     ensures { option_map (λ found. (found.0.now, found.1)) result
@@ -130,7 +138,7 @@ pub fn cost(subject: Subject, bytes: &[u8], forest: &Forest, item: usize) -> Opt
 /// The name of a definition, the items of its arguments, its cost and the item of its result.
 #[derive(Clone, Copy)]
 pub struct Parts<'a> {
-    pub name: &'a [u8],
+    pub name: &'a str,
     pub args: &'a [usize],
     pub cost: u32,
     pub result: usize,

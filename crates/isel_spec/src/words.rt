@@ -1,9 +1,9 @@
 //! The words of a file's text: numerals, names, literals and operators.
 
-ghost use Rattle.std.specs.Prelude.{◌≡◌, ◌<◌, ◌≤◌, ◌^◌, ◌*◌, length, IfSome};
+ghost use Rattle.std.specs.Prelude.{◌≡◌, ◌<◌, ◌≤◌, ◌^◌, ◌*◌, length, option_map, IfSome};
 ghost use Rattle.std.specs.List.{list_all};
 ghost use Rattle.isel_spec.specs.Text.{is_digit, is_letter, is_name_byte, starts_with_letter, has_name_bytes, is_truth_value, is_name, is_numeral, numeral, digit_in, digit_bits, hex_digit, binary_digit, number, width, constant, literal};
-ghost use Rattle.isel_spec.specs.Form.{operator};
+ghost use Rattle.isel_spec.specs.Form.{where_true, operator};
 
 use bv_terms::Op;
 
@@ -53,10 +53,21 @@ fn is_truth_value(word: &[u8]) -> bool
 }
 
 /// A letter, then letters, digits, `_`, `.` and `-`; neither of the truth values; at most 64 bytes.
-pub fn is_name(word: &[u8]) -> bool
+fn is_name(word: &[u8]) -> bool
     ensures { result ≡ is_name word.now }
 {
     has_name_bytes(word) && !is_truth_value(word) && word.len() <= 64
+}
+
+/// A word as a name, where it is one.
+pub fn name(word: &[u8]) -> Option<&str>
+    ensures { option_map (λ name. name.now) result ≡ where_true (is_name word.now) word.now }
+{
+    if !is_name(word) {
+        return None;
+    }
+    // A name is ASCII.
+    str::from_utf8(word).ok()
 }
 
 fn all_digits(word: &[u8]) -> bool
