@@ -217,6 +217,13 @@ definition_with subject parts bs =
 abbrev pub subject_of : List ℕ → Option Subject
 subject_of head = if bytes_eq head (codes "op") then Some Operation else if bytes_eq head (codes "goal") then Some Goal else None
 
+-- what the members after the head define
+abbrev pub defined : Subject → List Tree → Option Definition
+defined subject trees = do
+  parts ← parts_in subject tree_view trees
+  scope ← option_and_then scope_of (each (binding_in subject tree_view) parts.args)
+  definition_with subject parts scope
+
 -- `(op ..)` or `(goal ..)`
 abbrev pub definition_in : Tree → Option Definition
 definition_in tree = do
@@ -224,10 +231,7 @@ definition_in tree = do
   first ← first_of members
   head ← word_in first.0
   subject ← subject_of head
-  parts ← parts_in subject tree_view first.1
-  bindings ← each (binding_in subject tree_view) parts.args
-  scope ← scope_of bindings
-  definition_with subject parts scope
+  defined subject first.1
 
 abbrev pub operations : List Definition → List file.Operation
 operations [] = []

@@ -5,3 +5,5 @@ pub mod Form
 pub mod Items
 pub mod Reading
 pub mod Fault
+pub mod Nodes
+pub mod Defined

@@ -1,8 +1,11 @@
 //! What a file says: the meanings of IR operations and of target instructions (goals).
 #![tactic(auto)]
 
+mod defined;
+mod definition;
 mod definitions;
 mod fault;
+mod few;
 mod part_lists;
 mod parts;
 mod scope;

@@ -56,9 +56,8 @@ pub fn sorts(alloc: Global, scope: &Named<Sort>) -> Result<Listed<Sort>, AllocEr
 {
     let mut sorts = Vec::new(alloc);
     for place in 0..scope.len() {
-        if let Some((_, sort)) = scope.get(place) {
-            sorts.push(*sort)?;
-        }
+        let (_, sort) = scope.get(place).unwrap();
+        sorts.push(*sort)?;
     }
     Ok(Listed::from_vec(sorts))
 }
