@@ -6,16 +6,16 @@ use Rattle.bv_terms.specs.Term.{Term}
 use Rattle.bv_terms.specs.Table.{Table, term_at}
 use Rattle.sexp_read.specs.declared.forest.Item.{Item}
 use Rattle.sexp_read.specs.Tree.{Tree}
-use Rattle.sexp_read.specs.Forest.{Denotes}
+use Rattle.sexp_read.specs.Forest.{Denotes, atom_at, children_at}
 use Rattle.isel_spec.specs.declared.subject.Subject.{Subject}
 use Rattle.isel_spec.specs.declared.defined.Defined.{Defined}
 use Rattle.isel_spec.specs.File.{stays_in}
 use Rattle.isel_spec.specs.Text.{each}
-use Rattle.isel_spec.specs.Form.{Binding, Parts, Definition, parts_in, binding_in, scope_of, tree_view, definition_with, defined, term_of}
+use Rattle.isel_spec.specs.Form.{Binding, Parts, Definition, parts_in, binding_in, scope_of, tree_view, definition_with, defined, definition_in, headed_in, subject_of, first_of, members_in, word_in, term_of}
 use Rattle.isel_spec.specs.Items.{item_view}
 use Rattle.isel_spec.specs.Reading.{IsTermOf}
 use Rattle.isel_spec.specs.Defined.{IsDefinition, definition_of}
-use Rattle.isel_spec.proofs.Agreement.{Agree, StandsFor, parts_agree, bindings_agree}
+use Rattle.isel_spec.proofs.Agreement.{Agree, StandsFor, parts_agree, bindings_agree, bind_related, bind_same, members_agree, first_agrees, words_agree}
 use Rattle.isel_spec.proofs.Stays.{term-stays}
 use Rattle.std.proofs.lemmas.Option.{none-some, same_Some}
 
@@ -81,3 +81,32 @@ defined-some subject bytes items numbers read scope table at is some terms trees
       ∙ rw (made, ← has.stands.name, ← has.stands.cost) refl,
       term-stays scope has.said.result (term_at table at) made,
     )
+
+-- ---- an item
+
+abbrev SameHead : List ℕ → List Item → Subject × List ℕ → Subject × List Tree → Type 0
+SameHead bytes items p q = (p.0 ≡ q.0) × AllZip (Denotes bytes items) p.1 q.1
+
+-- what an item defines is what its tree does
+headed_agrees : (bytes : List ℕ) (items : List Item) (number : ℕ) (tree : Tree) → Denotes bytes items number tree →
+    Agree (SameHead bytes items) (headed_in (item_view bytes items) number) (headed_in tree_view tree)
+headed_agrees bytes items number tree d =
+    bind_related (AllZip (Denotes bytes items)) (SameHead bytes items) (children_at items number) (members_in tree) _ _ (members_agree bytes items number tree d)
+    (λ ns ts ds. bind_related (λ p q. Denotes bytes items p.0 q.0 × AllZip (Denotes bytes items) p.1 q.1) (SameHead bytes items) (first_of ns) (first_of ts) _ _
+    (first_agrees (Denotes bytes items) ns ts ds)
+    (λ p q e. bind_same (SameHead bytes items) (atom_at bytes items p.0) (word_in q.0) _ _ (words_agree bytes items p.0 q.0 e.0)
+    (λ head. bind_same (SameHead bytes items) (subject_of head) (subject_of head) _ _ refl (λ subject. (refl, e.1)))))
+
+pub item-none : (bytes : List ℕ) (items : List Item) (number : ℕ) → headed_in (item_view bytes items) number ≡ None →
+    (t : Tree) → Denotes bytes items number t → definition_in t ≡ None
+item-none bytes items number e t d =
+    let none = agree-none (SameHead bytes items) (headed_in tree_view t)
+        (subst (λ o. Agree (SameHead bytes items) o (headed_in tree_view t)) e (headed_agrees bytes items number t d)) in
+    rw none refl
+
+pub item-some : (bytes : List ℕ) (items : List Item) (number : ℕ) (subject : Subject) (rest : List ℕ) → headed_in (item_view bytes items) number ≡ Some (subject, rest) →
+    (t : Tree) → Denotes bytes items number t → (trees : List Tree) × AllZip (Denotes bytes items) rest trees × (definition_in t ≡ defined subject trees)
+item-some bytes items number subject rest e t d =
+    let some = agree-some (SameHead bytes items) (subject, rest) (headed_in tree_view t)
+        (subst (λ o. Agree (SameHead bytes items) o (headed_in tree_view t)) e (headed_agrees bytes items number t d)) in
+    (some.0.1, some.1.1, rw some.2 (ap (λ s. defined s some.0.1) (sym some.1.0)))

@@ -41,7 +41,7 @@ each-end f xs i done h = rw (drop_all i xs) (ap Some (append-nothing done))
 bytes_eq-same : (name : List ℕ) → bytes_eq name name ≡ true
 bytes_eq-same name = (bytes_eq-Decides name name).1 refl
 
-false_unless : (b : Bool) → (b ≡ true → ⊥) → b ≡ false
+pub false_unless : (b : Bool) → (b ≡ true → ⊥) → b ≡ false
 false_unless true h = absurd (h refl)
 false_unless false h = refl
 
@@ -73,7 +73,7 @@ differ-apart (n ∷ names) name e h =
     let rest = differ-apart names name both.1 (λ c. h (Contains-append_right (n ∷ []) names name c)) in
     rw (any, other) (tidy (list_any (bytes_eq n) names) (differ (names ++ name ∷ [])) both.0 rest)
 
-only_one : (n name : List ℕ) → Contains (n ∷ []) name → n ≡ name
+pub only_one : {A : Type 0} (n name : A) → Contains (n ∷ []) name → n ≡ name
 only_one n name h = sym (All-contains (λ x. x ≡ n) (n ∷ []) name (All-cons (λ x. x ≡ n) n [] refl (All-nil (λ x. x ≡ n))) h)
 
 pub differ-twice : (names : List (List ℕ)) (name : List ℕ) (more : List (List ℕ)) → Contains names name → differ (names ++ name ∷ more) ≡ false
