@@ -109,4 +109,4 @@ pub item-some : (bytes : List ℕ) (items : List Item) (number : ℕ) (subject :
 item-some bytes items number subject rest e t d =
     let some = agree-some (SameHead bytes items) (subject, rest) (headed_in tree_view t)
         (subst (λ o. Agree (SameHead bytes items) o (headed_in tree_view t)) e (headed_agrees bytes items number t d)) in
-    (some.0.1, some.1.1, rw some.2 (ap (λ s. defined s some.0.1) (sym some.1.0)))
+    (some.0.1, some.1.1, ap (option_and_then (λ (h : Subject × List Tree). defined h.0 h.1)) some.2 ∙ ap (λ s. defined s some.0.1) (sym some.1.0))

@@ -28,7 +28,7 @@ pub each-stop : {B : Type 0} (f : ℕ → Option B) (xs : List ℕ) (i : ℕ) (d
     option_map (λ more. done ++ more) (each f (drop i xs)) ≡ None
 each-stop f xs i done h e = rw (drop-cons xs i 0, e) refl
 
-append-nothing : {B : Type 0} (xs : List B) → xs ++ [] ≡ xs
+pub append-nothing : {B : Type 0} (xs : List B) → xs ++ [] ≡ xs
 append-nothing [] = refl
 append-nothing (x ∷ xs) = ap (λ ys. x ∷ ys) (append-nothing xs)
 

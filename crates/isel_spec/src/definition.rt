@@ -1,13 +1,14 @@
 //! Definitions of the small form.
 
-ghost use Rattle.std.specs.Prelude.{◌≡◌, ◌<◌, ◌≤◌, List, length, option_map, None, IfOk, IfSome};
+ghost use Rattle.std.specs.Prelude.{◌≡◌, ◌<◌, ◌≤◌, List, length, option_map, map, Some, None, IfOk, IfSome};
 ghost use Rattle.std.specs.List.{All, AllZip};
 ghost use Rattle.sexp_read.specs.Tree.{Tree};
 ghost use Rattle.sexp_read.specs.Forest.{IsReading, Denotes};
+ghost use Rattle.isel_spec.specs.Text.{each};
 ghost use Rattle.isel_spec.specs.Form.{defined, definition_in, headed_in};
 ghost use Rattle.isel_spec.specs.Items.{item_view};
 ghost use Rattle.isel_spec.specs.Reading.{Tells, Extends};
-ghost use Rattle.isel_spec.specs.Defined.{IsDefinition};
+ghost use Rattle.isel_spec.specs.Defined.{IsDefinition, IsWithin, AreDefinitions};
 
 use crate::defined::Defined;
 use crate::fault::FirstFault;
@@ -33,10 +34,9 @@ pub fn definition(
     requires reading { IsReading bytes.now forest.now }
     requires items_in { All (λ item. item < length forest.now.items) items.now }
     ensures extends { Extends terms.old terms.new }
-    ensures within { IfOk result (λ read. read.result.0 < length terms.new.nodes) }
-    ensures few { IfOk result (λ read. length read.scope ≤ 4) }
+    ensures within { IfOk result (IsWithin terms.new) }
     ensures tells { Tells result
-        (λ read. (trees : List Tree) → AllZip (Denotes bytes.now forest.now.items) items.now trees → IsDefinition terms.new subject read (defined subject trees))
+        (λ read. (trees : List Tree) → AllZip (Denotes bytes.now forest.now.items) items.now trees → IsDefinition terms.new read (defined subject trees))
         ((trees : List Tree) → AllZip (Denotes bytes.now forest.now.items) items.now trees → defined subject trees ≡ None) }
 {
     let Some(parts) = parts(subject, bytes, forest, items) else {
@@ -46,6 +46,7 @@ pub fn definition(
     let result = term(alloc, bytes, forest, &scope, terms, parts.result)?;
     let name = String::from_str(alloc, parts.name)?;
     Ok(Defined {
+        subject,
         name,
         scope,
         cost: parts.cost,
@@ -73,19 +74,41 @@ pub fn item_definition(
     forest: &Forest,
     item: usize,
     terms: &mut Terms,
-) -> Result<(Subject, Defined), FirstFault>
+) -> Result<Defined, FirstFault>
     requires reading { IsReading bytes.now forest.now }
     requires item_in { item < length forest.now.items }
     ensures extends { Extends terms.old terms.new }
-    ensures within { IfOk result (λ read. read.1.result.0 < length terms.new.nodes) }
-    ensures few { IfOk result (λ read. length read.1.scope ≤ 4) }
+    ensures within { IfOk result (IsWithin terms.new) }
     ensures tells { Tells result
-        (λ read. (t : Tree) → Denotes bytes.now forest.now.items item t → IsDefinition terms.new read.0 read.1 (definition_in t))
+        (λ read. (t : Tree) → Denotes bytes.now forest.now.items item t → IsDefinition terms.new read (definition_in t))
         ((t : Tree) → Denotes bytes.now forest.now.items item t → definition_in t ≡ None) }
 {
     let Some((subject, rest)) = headed(bytes, forest, item) else {
         return Err(FirstFault::Outside);
     };
-    let read = definition(alloc, subject, bytes, forest, rest, terms)?;
-    Ok((subject, read))
+    definition(alloc, subject, bytes, forest, rest, terms)
+}
+
+/// What the items of a file define, in order.
+pub fn definitions(
+    alloc: Global,
+    bytes: &[u8],
+    forest: &Forest,
+    items: &[usize],
+    terms: &mut Terms,
+) -> Result<Vec<Defined>, FirstFault>
+    requires reading { IsReading bytes.now forest.now }
+    requires items_in { All (λ item. item < length forest.now.items) items.now }
+    ensures within { IfOk result (λ reads. All (IsWithin terms.new) reads.items) }
+    ensures extends { Extends terms.old terms.new }
+    ensures tells { Tells result
+        (λ reads. (trees : List Tree) → AllZip (Denotes bytes.now forest.now.items) items.now trees → AreDefinitions terms.new reads.items (each definition_in trees))
+        ((trees : List Tree) → AllZip (Denotes bytes.now forest.now.items) items.now trees → each definition_in trees ≡ None) }
+{
+    let mut reads = Vec::new(alloc);
+    for item in items {
+        let read = item_definition(alloc, bytes, forest, *item, terms)?;
+        reads.push(read)?;
+    }
+    Ok(reads)
 }

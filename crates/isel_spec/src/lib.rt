@@ -4,6 +4,7 @@
 mod defined;
 mod definition;
 mod definitions;
+mod entries;
 mod fault;
 mod few;
 mod part_lists;
