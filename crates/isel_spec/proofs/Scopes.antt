@@ -45,7 +45,7 @@ pub false_unless : (b : Bool) → (b ≡ true → ⊥) → b ≡ false
 false_unless true h = absurd (h refl)
 false_unless false h = refl
 
-and_true : (a b : Bool) → (a && b) ≡ true → (a ≡ true) × (b ≡ true)
+pub and_true : (a b : Bool) → (a && b) ≡ true → (a ≡ true) × (b ≡ true)
 and_true true b e = (refl, e)
 and_true false b e = cc
 
@@ -57,11 +57,11 @@ or_true : (a b : Bool) → a ≡ true → (not a && b) ≡ false
 or_true true b e = refl
 or_true false b e = cc
 
-and_false : (a b : Bool) → b ≡ false → (a && b) ≡ false
+pub and_false : (a b : Bool) → b ≡ false → (a && b) ≡ false
 and_false true b e = e
 and_false false b e = refl
 
-any_name : (name : List ℕ) (names : List (List ℕ)) → Contains names name → list_any (bytes_eq name) names ≡ true
+pub any_name : (name : List ℕ) (names : List (List ℕ)) → Contains names name → list_any (bytes_eq name) names ≡ true
 any_name name names h = or_at (list_any (bytes_eq name)) (bytes_eq name) refl (λ _ _. refl) names h.0 name h.1 (rw h.2 (bytes_eq-same name))
 
 pub differ-apart : (names : List (List ℕ)) (name : List ℕ) → differ names ≡ true → (Contains names name → ⊥) → differ (names ++ name ∷ []) ≡ true
