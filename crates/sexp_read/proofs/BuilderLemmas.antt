@@ -1,13 +1,14 @@
 -- What a builder holds after each of its steps.
-use Rattle.std.proofs.Common.{◌≡◌, ℕ, ◌+◌, ◌<◌, List, [], ◌∷◌, ◌++◌, length, refl, sym, ap, subst, ◌∙◌, arith, append_assoc, length-append, set, slice_index_or, slice_set, ◌-◌}
-use Rattle.std.proofs.lemmas.List.{same_from_push, get_or_at, set_at, length_push}
+use Rattle.std.proofs.Common.{◌≡◌, ℕ, ◌+◌, ◌<◌, List, [], ◌∷◌, ◌++◌, length, refl, sym, ap, subst, ◌∙◌, arith, append_assoc, length-append, set, slice_get, Some, None, slice_index_or, slice_set, ◌-◌}
+use Rattle.std.proofs.lemmas.List.{same_from_push, get_or_at, set_at, length_push, nil_from_length}
+use Rattle.sexp_read.specs.declared.forest.Forest.{Forest}
 use Rattle.sexp_read.specs.declared.builder.Builder.{Builder}
 use Rattle.sexp_read.specs.declared.builder.OpenList.{OpenList}
 use Rattle.sexp_read.specs.Token.{Token, Open, Close, Atom}
 use Rattle.sexp_read.specs.Tree.{Tree, Word, Branch, Trees, End, depth_limit}
 use Rattle.sexp_read.specs.Forest.{atom, list, places}
 use Rattle.sexp_read.specs.Fault.{open_lists}
-use Rattle.sexp_read.specs.Progress.{Partial, Root, Inside, spelled, count, items_in, open_in, outermost_in, IsFaultless, HasBuilt, AddsMember, with_member}
+use Rattle.sexp_read.specs.Progress.{Partial, Root, Inside, spelled, count, items_in, open_in, outermost_in, IsFaultless, HasBuilt, AddsMember, with_member, Holds}
 use Rattle.sexp_read.proofs.PartialLemmas.{add, spelled-add, length-items_in, items_in-add, items_in-close, adds-member, open_places, open_lists-spelled, length-open_places, faultless-append}
 
 pub has-nothing : (new : Builder) → new.items.items ≡ [] → new.unclosed.items ≡ [] → new.outermost ≡ [] → HasBuilt [] new
@@ -130,3 +131,49 @@ add-inner opened n found members number len is-found is-members front last e =
     ap (λ (ms : List ℕ). record { number = found.number; from = found.from; members = ms }) is-members ∙ ap (λ (l : OpenList). with_member l number) same in
     ap (λ ls. slice_set ls (n - 1) (record { number = found.number; from = found.from; members = members })) e
     ∙ set_at front last [] _ (n - 1) before ∙ ap (λ (l : OpenList). front ++ l ∷ []) changed
+
+-- the first list on the stack is the outermost one
+outermost-open : (trees : Partial) (first : OpenList) (rest : List OpenList) → open_in trees ≡ first ∷ rest → (inner : List ℕ) × (open_places trees ≡ inner ++ first.from ∷ [])
+outermost-open (Root trees) first rest e = absurd (cc)
+outermost-open (Inside outer place members) first rest e = below (open_in outer) refl (outermost-open outer)
+  where
+    last : OpenList
+    last = record { number = count outer; from = place; members = places (count outer + 1) members }
+
+    below : (others : List OpenList) → open_in outer ≡ others →
+        ((first : OpenList) (rest : List OpenList) → open_in outer ≡ first ∷ rest → (inner : List ℕ) × (open_places outer ≡ inner ++ first.from ∷ [])) →
+        (inner : List ℕ) × (place ∷ open_places outer ≡ inner ++ first.from ∷ [])
+    below [] none deeper =
+        let ends : last ∷ [] ≡ first ∷ rest = ap (λ (ls : List OpenList). ls ++ last ∷ []) (sym none) ∙ e in
+        let same : last ≡ first = cc ends in
+        let alone = nil_from_length (open_places outer) (length-open_places outer ∙ ap length none) in
+        ([], ap (λ ps. place ∷ ps) alone ∙ ap (λ (l : OpenList). l.from ∷ []) same)
+    below (y ∷ ys) some deeper =
+        let ends : y ∷ (ys ++ last ∷ []) ≡ first ∷ rest = ap (λ (ls : List OpenList). ls ++ last ∷ []) (sym some) ∙ e in
+        let same : y ≡ first = cc ends in
+        let found = deeper y ys some in
+        (place ∷ found.0, ap (λ ps. place ∷ ps) (found.1 ∙ ap (λ (l : OpenList). found.0 ++ l.from ∷ []) same))
+
+pub leaves-open : (builder : Builder) (first : OpenList) → slice_get builder.unclosed.items 0 ≡ Some first →
+    (ts : List Token) → HasBuilt ts builder → (inner : List ℕ) × (open_lists ts ≡ inner ++ first.from ∷ [])
+leaves-open builder first e ts built =
+    let split = first-of builder.unclosed.items first e in
+    let found = outermost-open built.trees first split.0 (sym built.opened ∙ split.1) in
+    (found.0, ap open_lists (sym built.spelling) ∙ open_lists-spelled built.trees ∙ found.1)
+  where
+    first-of : (ls : List OpenList) (x : OpenList) → slice_get ls 0 ≡ Some x → (rest : List OpenList) × (ls ≡ x ∷ rest)
+    first-of [] x e = absurd (cc)
+    first-of (y ∷ ls) x e = let same : y ≡ x = cc in (ls, ap (λ (z : OpenList). z ∷ ls) same)
+
+pub none-first : (ls : List OpenList) → slice_get ls 0 ≡ None → length ls ≡ 0
+none-first [] e = refl
+none-first (y ∷ ls) e = absurd (cc)
+
+pub holds-all : (builder : Builder) (forest : Forest) → length builder.unclosed.items ≡ 0 → forest.items ≡ builder.items.items → forest.outermost ≡ builder.outermost →
+    (ts : List Token) → HasBuilt ts builder → Holds ts forest
+holds-all builder forest none items outermost ts built = closed built.trees built.spelling (sym built.opened) built.items built.outermost
+  where
+    closed : (trees : Partial) → spelled trees ≡ ts → open_in trees ≡ builder.unclosed.items → builder.items.items ≡ items_in trees → builder.outermost ≡ outermost_in trees → Holds ts forest
+    closed (Root trees) spelling opened is ns = record { trees = trees; spelling = spelling; items = items ∙ is; outermost = outermost ∙ ns }
+    closed (Inside outer place members) spelling opened is ns =
+        absurd (omega (arith, ap length opened, none, length-append (open_in outer) (record { number = count outer; from = place; members = places (count outer + 1) members } ∷ [])))

@@ -1,18 +1,18 @@
 -- Which texts have a fault, and that it is one fault.
-use Rattle.std.proofs.Common.{◌≡◌, ℕ, zero, suc, ◌+◌, ◌-◌, ◌<◌, ◌≤◌, ◌⊎◌, max, Bool, true, false, List, [], ◌∷◌, ◌++◌, length, drop, slice_get, Some, refl, sym, ap, subst, ◌∙◌, inl, inr, arith, append_assoc, length-append}
+use Rattle.std.proofs.Common.{◌≡◌, ℕ, ◌+◌, ◌-◌, ◌<◌, ◌≤◌, ◌⊎◌, true, false, List, [], ◌∷◌, ◌++◌, length, drop, slice_get, Some, refl, sym, ap, subst, ◌∙◌, inl, inr, arith, append_assoc, length-append}
 use Rattle.std.specs.Prelude.{IsTrue}
 use Rattle.std.specs.List.{AllByRecursion, list_all}
 use Rattle.std.proofs.lemmas.List.{append-nil, same_from_push}
 use Rattle.std.proofs.lemmas.Bool.{cases_lt, false≢true}
 use Rattle.std.proofs.lemmas.List.Sums.{AllPass-from_list_all}
-use Rattle.std.proofs.lemmas.Option.{slice_get_within, slice_get-get_or, get_or_from_slice_get}
+use Rattle.std.proofs.lemmas.Option.{slice_get_within, get_or_from_slice_get}
 use Rattle.sexp_read.specs.declared.fault.SexpFault.{SexpFault}
 use Rattle.sexp_read.specs.declared.fault.SexpFault.TheVariants.{NotText, Unclosed, Stray, Deep, NoMemory}
 use Rattle.sexp_read.specs.declared.forest.Item.{Item}
 use Rattle.sexp_read.specs.declared.forest.Forest.{Forest}
 use Rattle.sexp_read.specs.Token.{is_text_byte, Token, Open, Close, Atom, Mode, tokens, tokens_from}
 use Rattle.sexp_read.specs.Tree.{Tree, Word, Branch, Trees, End, Then, tree_tokens, flatten, tree_depth, depth, depth_limit}
-use Rattle.sexp_read.specs.Forest.{IsForest, IsReading, items_of, places}
+use Rattle.sexp_read.specs.Forest.{IsReading, items_of, places}
 use Rattle.sexp_read.specs.Fault.{open_after, open_lists, HasToken, StandsIn, place_of, IsFault}
 use Rattle.sexp_read.specs.Progress.{IsFaultless}
 use Rattle.sexp_read.proofs.PartialLemmas.{open_lists-flatten}
@@ -27,8 +27,8 @@ in-either {X} (y ∷ xs) ys (z ∷ before) x after e =
     let same : y ≡ z = cc in
     let rest : xs ++ ys ≡ before ++ x ∷ after = cc in
     elim (in-either xs ys before x after rest) [
-      inl found ↦ inl (found.0, ap (λ w. w ∷ xs) same ∙ ap (λ ws. z ∷ ws) found.1)
-    | inr found ↦ inr found
+      | inl found ↦ inl (found.0, ap (λ w. w ∷ xs) same ∙ ap (λ ws. z ∷ ws) found.1)
+      | inr found ↦ inr found
     ]
 
 pub all-in-middle : {X : Type 0} (P : X → Type 0) (before : List X) (x : X) (after : List X) → AllByRecursion P (before ++ x ∷ after) → P x
@@ -58,9 +58,11 @@ mutual
   tree-faultless : (tree : Tree) (opened : List ℕ) (rest : List Token) → length opened + tree_depth tree ≤ depth_limit → IsFaultless opened rest →
       IsFaultless opened (tree_tokens tree ++ rest)
   tree-faultless (Word first word) opened rest le h = h
-  tree-faultless (Branch from to members) opened rest le h =
-      (omega arith, subst (IsFaultless (from ∷ opened)) (sym (append_assoc (flatten members) (Close to ∷ []) rest))
-        (trees-faultless members (from ∷ opened) (Close to ∷ rest) (omega arith) h))
+  tree-faultless (Branch from to members) opened rest le h = (
+    omega arith,
+    subst (IsFaultless (from ∷ opened)) (sym (append_assoc (flatten members) (Close to ∷ []) rest))
+        (trees-faultless members (from ∷ opened) (Close to ∷ rest) (omega arith) h),
+  )
 
   pub trees-faultless : (trees : Trees) (opened : List ℕ) (rest : List Token) → length opened + depth trees ≤ depth_limit → IsFaultless opened rest →
       IsFaultless opened (flatten trees ++ rest)
@@ -75,7 +77,7 @@ mutual
   tree-shallow (Word first word) opened rest le h = (omega arith, h)
   tree-shallow (Branch from to members) opened rest le h =
       let inner = trees-shallow members (from ∷ opened) (Close to ∷ rest) (omega (arith, h.0))
-        (subst (IsFaultless (from ∷ opened)) (append_assoc (flatten members) (Close to ∷ []) rest) h.1) in
+      (subst (IsFaultless (from ∷ opened)) (append_assoc (flatten members) (Close to ∷ []) rest) h.1) in
       (omega (arith, inner.0), inner.1)
 
   pub trees-shallow : (trees : Trees) (opened : List ℕ) (rest : List Token) → length opened ≤ depth_limit → IsFaultless opened (flatten trees ++ rest) →
@@ -112,7 +114,7 @@ mutual
       let here : from ≡ from' = cc in
       let rest : (flatten members ++ Close to ∷ []) ++ xs ≡ (flatten members' ++ Close to' ∷ []) ++ ys = cc in
       let inner = trees-one members members' (Close to ∷ xs) (Close to' ∷ ys) tt tt
-        (sym (append_assoc (flatten members) (Close to ∷ []) xs) ∙ rest ∙ append_assoc (flatten members') (Close to' ∷ []) ys) in
+      (sym (append_assoc (flatten members) (Close to ∷ []) xs) ∙ rest ∙ append_assoc (flatten members') (Close to' ∷ []) ys) in
       let same : members ≡ members' = inner.0 in
       let ends : Close to ∷ xs ≡ Close to' ∷ ys = inner.1 in
       (cc, cc)
@@ -152,17 +154,17 @@ none-earlier bytes ts mode place faultless spelling text (NotText k) h =
     not-before k place (λ lt. false≢true (sym h.2 ∙ text k h.0 lt h.1))
 none-earlier bytes ts mode place faultless spelling text (Stray k) h =
     elim (in-either ts _ h.0 (Close (k + 1)) h.1.after (sym spelling ∙ h.1.spelled)) [
-      inl found ↦ absurd (no-stray h.0 (k + 1) found.0 (subst (IsFaultless []) found.1 faultless) h.2)
-    | inr found ↦
-      let here : place < k + 1 = all-in-middle (IsFrom place) found.0 (Close (k + 1)) h.1.after
-        (subst (AllByRecursion (IsFrom place)) found.1 (tokens_from-from mode place (drop place bytes))) in omega arith
+      | inl found ↦ absurd (no-stray h.0 (k + 1) found.0 (subst (IsFaultless []) found.1 faultless) h.2)
+      | inr found ↦
+          let here : place < k + 1 = all-in-middle (IsFrom place) found.0 (Close (k + 1)) h.1.after
+          (subst (AllByRecursion (IsFrom place)) found.1 (tokens_from-from mode place (drop place bytes))) in omega arith
     ]
 none-earlier bytes ts mode place faultless spelling text (Deep k) h =
     elim (in-either ts _ h.0 (Open k) h.1.after (sym spelling ∙ h.1.spelled)) [
-      inl found ↦
-      let few : length (open_lists h.0) < depth_limit = not-deep h.0 k found.0 (subst (IsFaultless []) found.1 faultless) in absurd (omega (arith, h.2))
-    | inr found ↦ all-in-middle (IsFrom place) found.0 (Open k) h.1.after
-        (subst (AllByRecursion (IsFrom place)) found.1 (tokens_from-from mode place (drop place bytes)))
+      | inl found ↦
+          let few : length (open_lists h.0) < depth_limit = not-deep h.0 k found.0 (subst (IsFaultless []) found.1 faultless) in absurd (omega (arith, h.2))
+      | inr found ↦ all-in-middle (IsFrom place) found.0 (Open k) h.1.after
+          (subst (AllByRecursion (IsFrom place)) found.1 (tokens_from-from mode place (drop place bytes)))
     ]
 none-earlier bytes ts mode place faultless spelling text (Unclosed k) h = absurd h
 none-earlier bytes ts mode place faultless spelling text NoMemory h = absurd h
@@ -173,26 +175,23 @@ text-at bytes k b all e =
     let within : k < length bytes = slice_get_within bytes k b e in
     ap is_text_byte (sym (get_or_from_slice_get bytes k b b e)) ∙ AllPass-from_list_all is_text_byte bytes all k b within
 
-none-stands : (bytes : List ℕ) (trees : Trees) → IsTrue (list_all is_text_byte bytes) → tokens bytes ≡ flatten trees → depth trees ≤ depth_limit →
-    (fault : SexpFault) → StandsIn bytes fault → ⊥
-none-stands bytes trees text spelled nested fault h = stands fault h
-  where
-    faultless : IsFaultless [] (tokens bytes)
-    faultless = subst (IsFaultless []) (append-nil (flatten trees) ∙ sym spelled) (trees-faultless trees [] [] (omega (arith, nested)) tt)
+pub none-stands : (bytes : List ℕ) → IsTrue (list_all is_text_byte bytes) → IsFaultless [] (tokens bytes) → (fault : SexpFault) → StandsIn bytes fault → ⊥
+none-stands bytes text faultless (NotText k) h = false≢true (sym h.2 ∙ text-at bytes k h.0 text h.1)
+none-stands bytes text faultless (Stray k) h = no-stray h.0 (k + 1) h.1.after (subst (IsFaultless []) h.1.spelled faultless) h.2
+none-stands bytes text faultless (Deep k) h =
+    let few : length (open_lists h.0) < depth_limit = not-deep h.0 k h.1.after (subst (IsFaultless []) h.1.spelled faultless) in omega (arith, h.2)
+none-stands bytes text faultless (Unclosed k) h = h
+none-stands bytes text faultless NoMemory h = h
 
-    stands : (fault : SexpFault) → StandsIn bytes fault → ⊥
-    stands (NotText k) h = false≢true (sym h.2 ∙ text-at bytes k h.0 text h.1)
-    stands (Stray k) h = no-stray h.0 (k + 1) h.1.after (subst (IsFaultless []) h.1.spelled faultless) h.2
-    stands (Deep k) h =
-        let few : length (open_lists h.0) < depth_limit = not-deep h.0 k h.1.after (subst (IsFaultless []) h.1.spelled faultless) in omega (arith, h.2)
-    stands (Unclosed k) h = h
-    stands NoMemory h = h
+reading-tokens : (bytes : List ℕ) (trees : Trees) → tokens bytes ≡ flatten trees → depth trees ≤ depth_limit → IsFaultless [] (tokens bytes)
+reading-tokens bytes trees spelled nested =
+    subst (IsFaultless []) (append-nil (flatten trees) ∙ sym spelled) (trees-faultless trees [] [] (omega (arith, nested)) tt)
 
 pub reading-faultless : (bytes : List ℕ) (forest : Forest) (fault : SexpFault) → IsReading bytes forest → IsFault bytes fault → ⊥
 reading-faultless bytes forest fault reading h = faults fault h
   where
     none : (fault : SexpFault) → StandsIn bytes fault → ⊥
-    none = none-stands bytes reading.0 reading.1.text reading.1.spelled reading.1.nested
+    none = none-stands bytes reading.1.text (reading-tokens bytes reading.0 reading.1.spelled reading.1.nested)
 
     faults : (fault : SexpFault) → IsFault bytes fault → ⊥
     faults (NotText k) h = none (NotText k) h.0

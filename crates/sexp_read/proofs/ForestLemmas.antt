@@ -1,5 +1,6 @@
 -- What the items of a forest stand for, and where they stand.
-use Rattle.std.proofs.Common.{◌≡◌, ℕ, zero, suc, ◌+◌, ◌-◌, ◌<◌, ◌≤◌, List, [], ◌∷◌, ◌++◌, length, slice_get, slice_index_or, slice_range, Some, refl, sym, ap, subst, ◌∙◌, arith, append_assoc, length-append}
+use Rattle.std.proofs.Common.{◌≡◌, ℕ, zero, suc, ◌+◌, ◌-◌, ◌<◌, ◌≤◌, List, [], ◌∷◌, ◌++◌, length, slice_get, slice_index_or, slice_range, Some, None, refl, sym, ap, subst, ◌∙◌, arith, append_assoc, length-append}
+use Rattle.std.specs.Prelude.{option_and_then}
 use Rattle.std.specs.List.{AllByRecursion}
 use Rattle.std.proofs.lemmas.Option.{slice_get_within, slice_get_read}
 use Rattle.std.proofs.lemmas.List.{append-nil, length_push}
@@ -9,7 +10,7 @@ use Rattle.sexp_read.specs.declared.forest.Body.TheVariants as body
 use Rattle.sexp_read.specs.declared.forest.Forest.{Forest}
 use Rattle.sexp_read.specs.Token.{Token, Close, tokens}
 use Rattle.sexp_read.specs.Tree.{Tree, Word, Branch, Trees, End, Then, tree_tokens, flatten, tree_size, size}
-use Rattle.sexp_read.specs.Forest.{atom, list, places, tree_items, items_of, IsForest, IsReading, Denotes, DenoteAll}
+use Rattle.sexp_read.specs.Forest.{atom, list, places, tree_items, items_of, IsForest, IsReading, Denotes, DenoteAll, text_of, atom_in, atom_at, children_in, children_at}
 use Rattle.sexp_read.proofs.ListLemmas.{all-append, all-at, slice_get-middle, append-move}
 use Rattle.sexp_read.proofs.SpanLemmas.{Spans, tokens-span}
 use Rattle.sexp_read.proofs.TreeLemmas.{length-tree_items, length-items_of, tree_size-pos}
@@ -209,3 +210,32 @@ children-later bytes forest reading k item children e is-list =
 -- an item that was read at its number
 pub item-at : (items : List Item) (k : ℕ) (item : Item) → item ≡ slice_index_or items k item → k < length items → slice_get items k ≡ Some item
 item-at items k item e within = slice_get_read items (length items) k item refl within e
+
+-- what the accessors give at an item that stands for a tree
+denotes-item : (bytes : List ℕ) (items : List Item) (number : ℕ) (tree : Tree) → Denotes bytes items number tree →
+    (item : Item) × (slice_get items number ≡ Some item) × (item.to ≡ end_of tree)
+denotes-item bytes items number (Word first word) h = (_, h.0, refl)
+denotes-item bytes items number (Branch from to members) h = (_, h.1, refl)
+
+pub denotes-within : (bytes : List ℕ) (items : List Item) (number : ℕ) (tree : Tree) → Denotes bytes items number tree → number < length items
+denotes-within bytes items number tree h =
+    let found = denotes-item bytes items number tree h in slice_get_within items number found.0 found.1
+
+pub atom_at-word : (bytes : List ℕ) (items : List Item) (number first : ℕ) (word : List ℕ) → Denotes bytes items number (Word first word) →
+    atom_at bytes items number ≡ Some word
+atom_at-word bytes items number first word h =
+    ap (option_and_then (λ (item : Item). atom_in item.body (text_of bytes item))) h.0 ∙ ap Some h.1
+
+pub atom_at-branch : (bytes : List ℕ) (items : List Item) (number from to : ℕ) (members : Trees) → Denotes bytes items number (Branch from to members) →
+    atom_at bytes items number ≡ None
+atom_at-branch bytes items number from to members h =
+    ap (option_and_then (λ (item : Item). atom_in item.body (text_of bytes item))) h.1
+
+pub children_at-word : (bytes : List ℕ) (items : List Item) (number first : ℕ) (word : List ℕ) → Denotes bytes items number (Word first word) →
+    children_at items number ≡ None
+children_at-word bytes items number first word h = ap (option_and_then (λ (item : Item). children_in item.body)) h.0
+
+pub children_at-branch : (bytes : List ℕ) (items : List Item) (number from to : ℕ) (members : Trees) → Denotes bytes items number (Branch from to members) →
+    (children : List ℕ) × (children_at items number ≡ Some children) × DenoteAll bytes items children members
+children_at-branch bytes items number from to members h =
+    (h.0, ap (option_and_then (λ (item : Item). children_in item.body)) h.1, h.2)

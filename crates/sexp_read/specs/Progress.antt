@@ -1,9 +1,9 @@
 -- How far a reader has come, for its own functions: the tokens so far as trees that grow.
-use Rattle.std.specs.Prelude.{◌≡◌, ℕ, ◌+◌, ◌<◌, true, List, [], ◌∷◌, ◌++◌, length, drop, slice_get, slice_range, Some}
+use Rattle.std.specs.Prelude.{◌≡◌, ℕ, ◌+◌, ◌<◌, true, List, [], ◌∷◌, ◌++◌, length, drop, slice_get, slice_range, Some, ◌⊎◌}
 use Rattle.sexp_read.specs.declared.forest.Item.{Item}
 use Rattle.sexp_read.specs.declared.forest.Forest.{Forest}
 use Rattle.sexp_read.specs.declared.fault.SexpFault.{SexpFault}
-use Rattle.sexp_read.specs.declared.fault.SexpFault.TheVariants.{NotText, Unclosed, Stray, Deep, NoMemory}
+use Rattle.sexp_read.specs.declared.fault.SexpFault.TheVariants.{Unclosed, NoMemory}
 use Rattle.sexp_read.specs.declared.token.Class.{Class}
 use Rattle.sexp_read.specs.declared.builder.Builder.{Builder}
 use Rattle.sexp_read.specs.declared.builder.OpenList.{OpenList}
@@ -13,7 +13,7 @@ use Rattle.sexp_read.specs.declared.reader.Pending.TheVariants as pending
 use Rattle.sexp_read.specs.Token.{is_text_byte, class_of, Token, Open, Close, Atom, Mode, Between, Comment, Within, tokens, tokens_from}
 use Rattle.sexp_read.specs.Tree.{Trees, flatten, size, depth_limit}
 use Rattle.sexp_read.specs.Forest.{atom, places, items_of}
-use Rattle.sexp_read.specs.Fault.{open_lists}
+use Rattle.sexp_read.specs.Fault.{open_lists, IsFault}
 
 -- The trees so far: the outermost ones, and within them a list that is open, with its place and the
 -- members that are whole.
@@ -97,6 +97,14 @@ pub record HasClass (bytes : List ℕ) (place : ℕ) (class : Class) : Type 0 wh
   pub here : slice_get bytes place ≡ Some byte
   pub of_class : class_of byte ≡ class
   pub text : is_text_byte byte ≡ true
+
+-- a reader goes on over a byte of a class at a place, or refuses it
+abbrev pub ReadsOn : Reader → Class → ℕ → Reader → Type 0
+ReadsOn old class place new = (bytes : List ℕ) → HasRead bytes place old → HasClass bytes place class → HasRead bytes (place + 1) new
+
+abbrev pub Refuses : Reader → Class → ℕ → SexpFault → Type 0
+Refuses old class place fault =
+    (fault ≡ NoMemory) ⊎ ((bytes : List ℕ) → HasRead bytes place old → HasClass bytes place class → IsFault bytes fault)
 
 -- a forest holds the trees that these tokens spell
 pub record Holds (ts : List Token) (forest : Forest) : Type 0 where

@@ -11,14 +11,16 @@ pub struct Item {
     pub from: usize,
     /// The place after the last byte, which is the `)` of a list.
     pub to: usize,
+    /// Whether it is a word or a list.
     pub body: Body,
 }
 
+/// What an item is.
 #[derive(Debug, Drop)]
 pub enum Body {
     /// A word: its bytes are those of the span.
     Atom,
-    /// A list: the numbers of its members, in order.
+    /// A list, with the numbers of its members, in order.
     List { children: Listed<usize> },
 }
 

@@ -3,14 +3,13 @@ ghost use Rattle.sexp_read.specs.Token.{tokens};
 ghost use Rattle.sexp_read.specs.Tree.{Trees, flatten};
 ghost use Rattle.sexp_read.specs.Forest.{IsReading};
 ghost use Rattle.sexp_read.specs.Fault.{IsFault, IsButForMemory};
-ghost use Rattle.sexp_read.specs.Progress.{HasRead, HasClass, HasBuilt, IsBuilt};
-
-use std::alloc::Global;
+ghost use Rattle.sexp_read.specs.Progress.{HasRead, HasClass, HasBuilt, IsBuilt, ReadsOn, Refuses};
 
 use crate::builder::Builder;
 use crate::fault::SexpFault;
 use crate::forest::Forest;
 use crate::token::{Class, class_of, is_text_byte};
+use std::alloc::Global;
 
 /// What the bytes so far leave open beside lists.
 #[derive(Clone, Copy, Debug)]
@@ -52,28 +51,52 @@ impl Reader {
     }
 
     /// Reads a byte of a class at a place, where nothing is pending.
-    fn step_between(
-        &mut self,
-        alloc: Global,
-        class: Class,
-        place: usize,
-    ) -> Result<(), SexpFault>
+    fn step_between(&mut self, alloc: Global, class: Class, place: usize) -> Result<(), SexpFault>
         requires nothing { self.old.pending ≡ Pending.Nothing }
         requires built { IsBuilt self.old.builder }
         requires room { place + 1 < 2 ^ 64 }
-        ensures ok { OnOk result ((bytes : List ℕ) → HasRead bytes place self.old →
-            HasClass bytes place class → HasRead bytes (place + 1) self.new) }
-        ensures err { IfErr result (λ fault. (fault ≡ SexpFault.NoMemory) ⊎ ((bytes : List ℕ) →
-            HasRead bytes place self.old → HasClass bytes place class → IsFault bytes fault)) }
+        ensures ok { OnOk result (ReadsOn self.old class place self.new) }
+        ensures err { IfErr result (Refuses self.old class place) }
     {
         match class {
-            Class::Letter => self.pending = Pending::Word(place),
+            Class::Left => return self.builder.open_list(alloc, place),
+            Class::Right => return self.builder.close_list(place),
             Class::Semicolon => self.pending = Pending::Comment,
-            Class::Left => self.builder.open_list(alloc, place)?,
-            Class::Right => self.builder.close_list(place)?,
+            Class::Letter => self.pending = Pending::Word(place),
             Class::Blank | Class::LineFeed => {}
         }
         Ok(())
+    }
+
+    /// Reads a byte of a class at a place, in a word.
+    fn step_word(
+        &mut self,
+        alloc: Global,
+        first: usize,
+        class: Class,
+        place: usize,
+    ) -> Result<(), SexpFault>
+        requires word { self.old.pending ≡ Pending.Word first }
+        requires read { (bytes : List ℕ) × HasRead bytes place self.old × HasClass bytes place class }
+        requires room { place + 1 < 2 ^ 64 }
+        ensures ok { OnOk result (ReadsOn self.old class place self.new) }
+        ensures err { IfErr result (Refuses self.old class place) }
+    {
+        if let Class::Letter = class {
+            return Ok(());
+        }
+        self.end_word(first, place)?;
+        self.step_between(alloc, class, place)
+    }
+
+    /// Reads a byte of a class at a place, in a comment.
+    fn step_comment(&mut self, class: Class)
+        requires { self.old.pending ≡ Pending.Comment }
+        ensures { (place : ℕ) → ReadsOn self.old class place self.new }
+    {
+        if let Class::LineFeed = class {
+            self.pending = Pending::Nothing;
+        }
     }
 
     /// Reads the byte at a place.
@@ -87,16 +110,15 @@ impl Reader {
         if !is_text_byte(byte) {
             return Err(SexpFault::NotText(place));
         }
-        match (self.pending, class_of(byte)) {
-            (Pending::Comment, Class::LineFeed) => self.pending = Pending::Nothing,
-            (Pending::Comment, _) | (Pending::Word(_), Class::Letter) => {}
-            (Pending::Word(first), class) => {
-                self.end_word(first, place)?;
-                self.step_between(alloc, class, place)?;
+        let class = class_of(byte);
+        match self.pending {
+            Pending::Nothing => self.step_between(alloc, class, place),
+            Pending::Word(first) => self.step_word(alloc, first, class, place),
+            Pending::Comment => {
+                self.step_comment(class);
+                Ok(())
             }
-            (Pending::Nothing, class) => self.step_between(alloc, class, place)?,
         }
-        Ok(())
     }
 
     /// All that has been built, where the text ends at a place.
@@ -153,12 +175,10 @@ pub fn read(alloc: Global, bytes: &[u8]) -> Result<Forest, SexpFault>
 pub fn one_reading()
     ensures trees { (bytes : List ℕ) (some others : Trees) → tokens bytes ≡ flatten some → tokens bytes ≡ flatten others → some ≡ others }
     ensures forest { (bytes : List ℕ) (some other : Forest) → IsReading bytes some → IsReading bytes other → some ≡ other }
-{
-}
+{}
 
 /// No text has both a reading and a fault, or two faults.
 pub fn one_fault()
     ensures reading { (bytes : List ℕ) (forest : Forest) (fault : SexpFault) → IsReading bytes forest → IsFault bytes fault → ⊥ }
     ensures fault { (bytes : List ℕ) (fault other : SexpFault) → IsFault bytes fault → IsFault bytes other → fault ≡ other }
-{
-}
+{}
