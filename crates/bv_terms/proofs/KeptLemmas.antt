@@ -1,5 +1,5 @@
 -- What the kept nodes say of the table: where a node stands, the sorts of its terms, and what adding one leaves.
-use Rattle.std.proofs.Common.{◌≡◌, ℕ, ◌<◌, ◌≤◌, Bool, true, false, cond, nat_lt, List, [], ◌∷◌, ◌++◌, length, map, slice_get, get_or, unwrap_or, option_map, position, Option, None, Some, All, Contains, refl, sym, ap, ◌∙◌, subst, arith}
+use Rattle.std.proofs.Common.{take, ◌≡◌, ℕ, ◌<◌, ◌≤◌, Bool, true, false, cond, nat_lt, List, [], ◌∷◌, ◌++◌, length, map, slice_get, get_or, unwrap_or, option_map, position, Option, None, Some, All, Contains, refl, sym, ap, ◌∙◌, subst, arith}
 use Rattle.std.specs.List.{position_or_len}
 use Rattle.std.specs.Map.{lookup}
 use Rattle.std.proofs.lemmas.Bool.{false≢true}
@@ -15,7 +15,7 @@ use Rattle.bv_terms.specs.declared.op.TermId.{TermId}
 use Rattle.bv_terms.specs.declared.node.Node.{Node}
 use Rattle.bv_terms.specs.declared.value.Sort.{Sort}
 use Rattle.bv_terms.specs.Term.{Term, Apply}
-use Rattle.bv_terms.specs.Sorts.{sort_of}
+use Rattle.bv_terms.specs.Sorts.{arity, sort_of}
 use Rattle.bv_terms.specs.Table.{Entry, Table, term_in, operands, terms_of, table_with, IsTable}
 use Rattle.bv_terms.specs.Node.{entry_of, node_of, table_of, IsKept}
 use Rattle.bv_terms.proofs.NodeLemmas.{node_eq, node_eq-sound, node_eq-refl}
@@ -41,6 +41,9 @@ kept-sort pointer kept is k e h =
     ∙ ap (λ ss. slice_get ss k) is.sorts ∙ slice_get-map sort_of (terms_of (table_of pointer kept)) k)
 
 -- ---- where a node stands
+
+pub kept-entry : (pointer : ℕ) (kept : List (Node × Sort)) (k : ℕ) (e : Node × Sort) → slice_get kept k ≡ Some e → slice_get (table_of pointer kept).nodes k ≡ Some (entry_of e.0)
+kept-entry pointer kept k e h = slice_get-map (λ (e : Node × Sort). entry_of e.0) kept k ∙ ap (option_map (λ (e : Node × Sort). entry_of e.0)) h
 
 abbrev keys : List (Node × Sort) → List Node
 keys kept = map (λ e. e.0) kept
@@ -131,3 +134,9 @@ kept-added pointer m is n s table same may after e =
       subst (IsKept pointer) (sym end) (IsKept-push pointer m.entries is n s may_here),
       ap (table_of pointer) end ∙ table_of-push pointer m.entries n s ∙ ap (λ table. table_with table (entry_of n)) same,
     )
+
+-- a kept node with these arguments stands in the table as an entry
+pub kept-stands : (pointer : ℕ) (kept : List (Node × Sort)) (table : Table) → table_of pointer kept ≡ table → (k : ℕ) (n : Node) (s : Sort) (args : List TermId)
+    → slice_get kept k ≡ Some (n, s) → args ≡ take (arity n.op) n.args → slice_get table.nodes k ≡ Some (record { op = n.op; args = args })
+kept-stands pointer kept table same k n s args at are =
+    ap (λ (table : Table). slice_get table.nodes k) (sym same) ∙ kept-entry pointer kept k (n, s) at ∙ ap (λ args. Some (record { op = n.op; args = args })) (sym are)

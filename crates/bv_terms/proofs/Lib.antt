@@ -3,3 +3,5 @@ pub mod TableLemmas
 pub mod NodeLemmas
 pub mod KeptLemmas
 pub mod MakeLemmas
+pub mod WordLemmas
+pub mod EvalLemmas

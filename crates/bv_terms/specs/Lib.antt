@@ -2,3 +2,4 @@ pub mod Term
 pub mod Sorts
 pub mod Table
 pub mod Node
+pub mod Eval

@@ -1,5 +1,5 @@
 -- Which values are of a sort, and which terms are well-sorted. Source: SMT-LIB 2.6, section 5 (the well-sorted terms), logic QF_BV.
-use Rattle.std.specs.Prelude.{◌≡◌, ℕ, ◌^◌, ◌<◌, List, [], ◌∷◌, length, Option, Some, None, slice_get, option_and_then, Bool, true, false, ◌&&◌, ◌==◌, nat_lt, nat_le, if◌then◌else◌}
+use Rattle.std.specs.Prelude.{◌≡◌, ℕ, ◌^◌, ◌<◌, ◌≤◌, List, [], ◌∷◌, length, Option, Some, None, slice_get, option_and_then, Bool, true, false, ◌&&◌, ◌==◌, nat_lt, nat_le, if◌then◌else◌}
 use Rattle.bv_terms.specs.declared.op.Op.{Op}
 use Rattle.bv_terms.specs.declared.op.Op.TheVariants as op
 use Rattle.bv_terms.specs.declared.op.MakeFault.{MakeFault}
@@ -94,6 +94,21 @@ unfoldable mutual
   pub sorts_of : Operands → Option (List Sort)
   sorts_of End = Some []
   sorts_of (Then t ts) = option_and_then (λ s. option_and_then (λ ss. Some (s ∷ ss)) (sorts_of ts)) (sort_of t)
+
+-- a width, where there is one, from 1 to 64
+abbrev pub IsSized : Sort → Type 0
+IsSized sort.Bool = Unit {0}
+IsSized (sort.Bits w) = (1 ≤ w) × (w ≤ 64)
+IsSized sort.Mem = Unit {0}
+
+abbrev pub AreSized : List Sort → Type 0
+AreSized [] = Unit {0}
+AreSized (s ∷ ss) = IsSized s × AreSized ss
+
+-- an input that an operation reads has a value of its sort
+abbrev pub InputFits : List Value → Op → Type 0
+InputFits inputs (op.Input k s) = (v : Value) × (slice_get inputs k ≡ Some v) × HasSort s v
+InputFits inputs _ = Unit {0}
 
 -- the inputs that stand in the term have values of their sorts
 unfoldable mutual

@@ -3,6 +3,7 @@
 //! The meanings are those of SMT-LIB 2.6, theories Core and FixedSizeBitVectors and the logic QF_BV.
 #![tactic(auto)]
 
+mod eval;
 mod node;
 mod op;
 mod terms;
@@ -11,3 +12,6 @@ mod value;
 pub use op::{MakeFault, Op, TermId};
 pub use terms::Terms;
 pub use value::{Env, Sort, Value};
+
+#[cfg(test)]
+mod tests;

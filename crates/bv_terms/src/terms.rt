@@ -1,12 +1,14 @@
 ghost use Rattle.std.specs.Prelude.{◌≡◌, ◌<◌, ◌≤◌, [], length, slice_get, None, Some, All, Contains, IfOk, IfErr, OnOk, OnErr, MatchOption, MatchResult};
-ghost use Rattle.bv_terms.specs.Term.{Apply};
-ghost use Rattle.bv_terms.specs.Sorts.{sort_of};
+ghost use Rattle.bv_terms.specs.declared.value.Sort.{Sort};
+ghost use Rattle.bv_terms.specs.Term.{Apply, value};
+ghost use Rattle.bv_terms.specs.Sorts.{sort_of, HasSort, InputsFit};
 ghost use Rattle.bv_terms.specs.Table.{operands, terms_of, term_at, make_refusal, table_with, IsTable, Makes};
 ghost use Rattle.bv_terms.specs.Node.{entry_of, node_of};
 
+use crate::eval::apply;
 use crate::node::Node;
 use crate::op::{MakeFault, Op, TermId};
-use crate::value::Sort;
+use crate::value::{Env, Sort, Value};
 use indexmap::IndexMap;
 use std::alloc::Global;
 use std::marker::Model;
@@ -101,6 +103,25 @@ impl Terms {
             Some(place) => Ok(TermId(place)),
             None => self.add(node, sort),
         }
+    }
+
+    /// The value of a node's term, where the inputs have the environment's values. It takes no
+    /// memory: `room` is filled from the front with the values of the nodes up to this one.
+    pub fn eval(&self, at: TermId, env: &Env, room: &mut [Value]) -> Value
+        requires there { at.0 < length self.now.nodes }
+        requires inputs { InputsFit env.now.values (term_at self.now at) }
+        requires room { length self.now.nodes ≤ length room.old }
+        ensures value { result ≡ value env.now.values (term_at self.now at) }
+        ensures sorted { (s : Sort) → sort_of (term_at self.now at) ≡ Some s → HasSort s result }
+    {
+        let inputs = env.values.as_slice();
+        let nodes = &self.nodes;
+        for place in 0..at.0 + 1 {
+            let (node, _) = nodes.get_index(place).unwrap();
+            let value = apply(&node.op, node.args(), inputs, room);
+            room[place] = value;
+        }
+        room[at.0]
     }
 
     /// The sort of an operation over nodes, or why it cannot stand over them.
