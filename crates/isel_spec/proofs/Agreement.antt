@@ -165,7 +165,7 @@ bind_related R S (Some a) None f g r h = absurd r
 bind_related R S (Some a) (Some b) f g r h = h a b r
 
 -- the same first step
-bind_same : {A C D : Type 0} (S : C → D → Type 0) (o p : Option A) (f : A → Option C) (g : A → Option D) →
+pub bind_same : {A C D : Type 0} (S : C → D → Type 0) (o p : Option A) (f : A → Option C) (g : A → Option D) →
     o ≡ p → ((a : A) → Agree S (f a) (g a)) → Agree S (option_and_then f o) (option_and_then g p)
 bind_same S None p f g e h = rw (← e) tt
 bind_same S (Some a) p f g e h = rw (← e) (h a)

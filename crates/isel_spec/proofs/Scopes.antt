@@ -28,7 +28,7 @@ pub each-stop : {B : Type 0} (f : ℕ → Option B) (xs : List ℕ) (i : ℕ) (d
     option_map (λ more. done ++ more) (each f (drop i xs)) ≡ None
 each-stop f xs i done h e = rw (drop-cons xs i 0, e) refl
 
-append-nothing : {B : Type 0} (xs : List B) → xs ++ [] ≡ xs
+pub append-nothing : {B : Type 0} (xs : List B) → xs ++ [] ≡ xs
 append-nothing [] = refl
 append-nothing (x ∷ xs) = ap (λ ys. x ∷ ys) (append-nothing xs)
 
@@ -41,11 +41,11 @@ each-end f xs i done h = rw (drop_all i xs) (ap Some (append-nothing done))
 bytes_eq-same : (name : List ℕ) → bytes_eq name name ≡ true
 bytes_eq-same name = (bytes_eq-Decides name name).1 refl
 
-false_unless : (b : Bool) → (b ≡ true → ⊥) → b ≡ false
+pub false_unless : (b : Bool) → (b ≡ true → ⊥) → b ≡ false
 false_unless true h = absurd (h refl)
 false_unless false h = refl
 
-and_true : (a b : Bool) → (a && b) ≡ true → (a ≡ true) × (b ≡ true)
+pub and_true : (a b : Bool) → (a && b) ≡ true → (a ≡ true) × (b ≡ true)
 and_true true b e = (refl, e)
 and_true false b e = cc
 
@@ -57,11 +57,11 @@ or_true : (a b : Bool) → a ≡ true → (not a && b) ≡ false
 or_true true b e = refl
 or_true false b e = cc
 
-and_false : (a b : Bool) → b ≡ false → (a && b) ≡ false
+pub and_false : (a b : Bool) → b ≡ false → (a && b) ≡ false
 and_false true b e = e
 and_false false b e = refl
 
-any_name : (name : List ℕ) (names : List (List ℕ)) → Contains names name → list_any (bytes_eq name) names ≡ true
+pub any_name : (name : List ℕ) (names : List (List ℕ)) → Contains names name → list_any (bytes_eq name) names ≡ true
 any_name name names h = or_at (list_any (bytes_eq name)) (bytes_eq name) refl (λ _ _. refl) names h.0 name h.1 (rw h.2 (bytes_eq-same name))
 
 pub differ-apart : (names : List (List ℕ)) (name : List ℕ) → differ names ≡ true → (Contains names name → ⊥) → differ (names ++ name ∷ []) ≡ true
@@ -73,7 +73,7 @@ differ-apart (n ∷ names) name e h =
     let rest = differ-apart names name both.1 (λ c. h (Contains-append_right (n ∷ []) names name c)) in
     rw (any, other) (tidy (list_any (bytes_eq n) names) (differ (names ++ name ∷ [])) both.0 rest)
 
-only_one : (n name : List ℕ) → Contains (n ∷ []) name → n ≡ name
+pub only_one : {A : Type 0} (n name : A) → Contains (n ∷ []) name → n ≡ name
 only_one n name h = sym (All-contains (λ x. x ≡ n) (n ∷ []) name (All-cons (λ x. x ≡ n) n [] refl (All-nil (λ x. x ≡ n))) h)
 
 pub differ-twice : (names : List (List ℕ)) (name : List ℕ) (more : List (List ℕ)) → Contains names name → differ (names ++ name ∷ more) ≡ false

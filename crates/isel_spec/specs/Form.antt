@@ -224,14 +224,17 @@ defined subject trees = do
   scope ← option_and_then scope_of (each (binding_in subject tree_view) parts.args)
   definition_with subject parts scope
 
--- `(op ..)` or `(goal ..)`
-abbrev pub definition_in : Tree → Option Definition
-definition_in tree = do
-  members ← members_in tree
+-- `(op ..)` or `(goal ..)`, as what it defines and the members after the head
+abbrev pub headed_in : {N : Type 0} → View N → N → Option (Subject × List N)
+headed_in view node = do
+  members ← view.members node
   first ← first_of members
-  head ← word_in first.0
+  head ← view.word first.0
   subject ← subject_of head
-  defined subject first.1
+  Some (subject, first.1)
+
+abbrev pub definition_in : Tree → Option Definition
+definition_in tree = headed_in tree_view tree >>= λ headed. defined headed.0 headed.1
 
 abbrev pub operations : List Definition → List file.Operation
 operations [] = []

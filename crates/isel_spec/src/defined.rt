@@ -1,3 +1,4 @@
+use crate::subject::Subject;
 use bv_terms::{Sort, TermId};
 use lists::Named;
 
@@ -5,6 +6,7 @@ use lists::Named;
 /// an operation, and its result.
 #[derive(Drop)]
 pub struct Defined {
+    pub subject: Subject,
     pub name: String,
     pub scope: Named<Sort>,
     pub cost: u32,

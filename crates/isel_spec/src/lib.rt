@@ -4,11 +4,14 @@
 mod defined;
 mod definition;
 mod definitions;
+mod entries;
 mod fault;
 mod few;
+mod file;
 mod part_lists;
 mod parts;
 mod scope;
+mod small;
 mod spec;
 mod subject;
 mod term;

@@ -1,6 +1,6 @@
 //! The parts of a file of the small form, read off the items of its forest.
 
-ghost use Rattle.std.specs.Prelude.{◌≡◌, ◌<◌, length, option_map, IfSome};
+ghost use Rattle.std.specs.Prelude.{◌≡◌, ◌<◌, ◌≤◌, length, option_map, IfSome};
 ghost use Rattle.std.specs.List.{All};
 ghost use Rattle.sexp_read.specs.Forest.{IsReading, children_at};
 ghost use Rattle.isel_spec.specs.Form.{binding, sort_in, arg_in, goal_arg_in, binding_in, cost_in, pointer_in};
@@ -102,7 +102,8 @@ pub fn binding<'a>(
 pub fn pointer(bytes: &[u8], forest: &Forest, item: usize) -> Option<u8>
     requires reading { IsReading bytes.now forest.now }
     requires item_in { item < length forest.now.items }
-    ensures { result ≡ pointer_in (item_view bytes.now forest.now.items) item }
+    ensures value { result ≡ pointer_in (item_view bytes.now forest.now.items) item }
+    ensures bounded { IfSome result (λ pointer. (1 ≤ pointer) × (pointer ≤ 64)) }
 {
     let [head, version, pointer] = members(bytes, forest, item)? else {
         return None;

@@ -3,8 +3,9 @@
 ghost use Rattle.std.specs.Prelude.{◌≡◌, ◌<◌, ◌≤◌, ◌^◌, ◌*◌, length, option_map, IfSome};
 ghost use Rattle.std.specs.List.{list_all};
 ghost use Rattle.isel_spec.specs.Text.{is_digit, is_letter, is_name_byte, starts_with_letter, has_name_bytes, is_truth_value, is_name, is_numeral, numeral, digit_in, digit_bits, hex_digit, binary_digit, number, width, constant, literal};
-ghost use Rattle.isel_spec.specs.Form.{where_true, operator};
+ghost use Rattle.isel_spec.specs.Form.{where_true, subject_of, operator};
 
+use crate::subject::Subject;
 use bv_terms::Op;
 
 fn is_digit(byte: u8) -> bool
@@ -199,6 +200,19 @@ pub fn literal(word: &[u8]) -> Option<Op>
         b'b' => constant(Base::Binary, digits),
         b'x' => constant(Base::Hexadecimal, digits),
         _ => None,
+    }
+}
+
+/// What an item with that head defines.
+pub fn subject_of(head: &[u8]) -> Option<Subject>
+    ensures { result ≡ subject_of head.now }
+{
+    if head == b"op".as_slice() {
+        Some(Subject::Operation)
+    } else if head == b"goal".as_slice() {
+        Some(Subject::Goal)
+    } else {
+        None
     }
 }
 
