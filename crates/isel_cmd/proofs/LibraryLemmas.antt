@@ -247,10 +247,6 @@ operation_AreRules f g w k = record {
 no_input_rule : (f : File) (g : Goal) (w : Wanted) → IsTask f g w → input_rules w ≡ [] → (p : Pattern) → IsWellFormed f g p → length p.nodes ≡ 0 → IsRule f g p → ⊥
 no_input_rule f g w k none p wf size rule = let found : In [] p = subst (λ xs. In xs p) none (input_from_rule f g w k p wf size rule) in found
 
--- rules of a size, and a rule of that size
-abbrev IsFound : File → Goal → ℕ → List Pattern → Type 0
-IsFound f g size xs = (p : Pattern) × IsRuleOfSize f g size p
-
 cases_nil : (xs : List Pattern) → (xs ≡ []) ⊎ ((p : Pattern) × In xs p)
 cases_nil [] = inl refl
 cases_nil (x ∷ xs) = inr (x, inl refl)
