@@ -9,8 +9,9 @@ use Rattle.bv_terms.specs.declared.op.TermId.{TermId}
 use Rattle.bv_terms.specs.declared.value.Sort.{Sort}
 use Rattle.bv_terms.specs.declared.value.Value.{Value}
 use Rattle.bv_terms.specs.declared.value.Value.TheVariants as val
-use Rattle.bv_terms.specs.Term.{Operands, Apply, op_value, value, values}
-use Rattle.bv_terms.specs.Sorts.{HaveSorts, arity, refusal, sort_of, AreSized, InputsFit, AllInputsFit}
+use Rattle.bv_terms.specs.declared.op.Op.TheVariants as op
+use Rattle.bv_terms.specs.Term.{Term, Operands, Apply, op_value, value, values}
+use Rattle.bv_terms.specs.Sorts.{HaveSorts, arity, refusal, sort_of, AreSized, InputFits, InputsFit, AllInputsFit}
 use Rattle.bv_terms.specs.Table.{Entry, Table, term_in, operands, terms_of, IsTable}
 use Rattle.bv_terms.specs.Eval.{value_in, values_in}
 use Rattle.bv_terms.proofs.TermLemmas.{IsSorted-of, IsFitting-of, sorts_of-sized, InputsFit-parts, values-sorted}
@@ -104,3 +105,30 @@ IsFilled-more table inputs room n r within filled here = λ k lt fit. ⊎_elim
     (λ same. let at : k ≡ n = omega arith in
     ap (slice_get (slice_set room n r)) at ∙ slice_get-set_same room n r within ∙ ap Some (here (subst (λ j. InputsFit inputs (term_in (terms_of table) j)) at fit)) ∙ ap (λ j. Some (value inputs (term_in (terms_of table) j))) (sym at))
     (cases_lt k n)
+
+-- ---- which terms have inputs that fit
+
+pub InputsFit-apply : (inputs : List Value) (o : Op) (ts : Operands) → InputFits inputs o → AllInputsFit inputs ts → InputsFit inputs (Apply o ts)
+unfolding InputsFit
+InputsFit-apply inputs (op.Input k s) ts h all = h
+InputsFit-apply inputs (op.Bits w n) ts h all = all
+InputsFit-apply inputs op.BvNot ts h all = all
+InputsFit-apply inputs op.BvAnd ts h all = all
+InputsFit-apply inputs op.BvOr ts h all = all
+InputsFit-apply inputs op.BvXor ts h all = all
+InputsFit-apply inputs op.BvAdd ts h all = all
+InputsFit-apply inputs op.BvSub ts h all = all
+
+AllInputsFit-operands : (inputs : List Value) (ts : List Term) (n : ℕ) → ((k : ℕ) → k < n → InputsFit inputs (term_in ts k)) → (args : List TermId) → AllByRecursion (λ (a : TermId). a.0 < n) args
+    → AllInputsFit inputs (operands ts args)
+unfolding InputsFit
+AllInputsFit-operands inputs ts n fit [] below = tt
+AllInputsFit-operands inputs ts n fit (a ∷ args) below = (fit a.0 below.0, AllInputsFit-operands inputs ts n fit args below.1)
+
+-- a node's inputs fit where its own does and those of all earlier nodes do
+pub InputsFit-node : (table : Table) → IsTable table → (inputs : List Value) (k : ℕ) (e : Entry) → slice_get table.nodes k ≡ Some e → InputFits inputs e.op
+    → ((j : ℕ) → j < k → InputsFit inputs (term_in (terms_of table) j)) → InputsFit inputs (term_in (terms_of table) k)
+InputsFit-node table is_table inputs k e h own earlier =
+    let below = recursion_from_All (λ (a : TermId). a.0 < k) e.args (is_table.earlier k e h) in
+    subst (InputsFit inputs) (sym (term_at-node table is_table (record { 0 = k }) e h))
+    (InputsFit-apply inputs e.op (operands (terms_of table) e.args) own (AllInputsFit-operands inputs (terms_of table) k earlier e.args below))

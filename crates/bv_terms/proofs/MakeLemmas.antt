@@ -166,3 +166,18 @@ seen-as table e s n sorted made = ap entry_of made ∙ entry_of-node_of e (arity
 
 pub padded-as : (table : Table) (e : Entry) (s : Sort) (n : Node) → sort_of (Apply e.op (operands (terms_of table) e.args)) ≡ Some s → n ≡ node_of e → n ≡ node_of (entry_of n)
 padded-as table e s n sorted made = made ∙ ap node_of (sym (seen-as table e s n sorted made))
+
+-- an operation over nodes is well-sorted exactly where it is not refused
+pub sort_of-made : (table : Table) → IsTable table → (o : Op) (args : List TermId) → All (λ (a : TermId). a.0 < length table.nodes) args → make_refusal table o args ≡ None
+    → (s : Sort) × (sort_of (Apply o (operands (terms_of table) args)) ≡ Some s)
+sort_of-made table is_table o args below h =
+    let sorts = sorts_of-operands table is_table args below in
+    let fits = sym (ap (option_and_then (refusal o)) sorts.1) ∙ h in
+    (result_sort o sorts.0, sort_of-apply o (operands (terms_of table) args) sorts.0 sorts.1 ∙ ap (λ q. sort_unless q (result_sort o sorts.0)) fits)
+
+pub sort_of-refused : (table : Table) → IsTable table → (o : Op) (args : List TermId) → All (λ (a : TermId). a.0 < length table.nodes) args → (f : MakeFault) → make_refusal table o args ≡ Some f
+    → sort_of (Apply o (operands (terms_of table) args)) ≡ None
+sort_of-refused table is_table o args below f h =
+    let sorts = sorts_of-operands table is_table args below in
+    let fault = sym (ap (option_and_then (refusal o)) sorts.1) ∙ h in
+    sort_of-apply o (operands (terms_of table) args) sorts.0 sorts.1 ∙ ap (λ q. sort_unless q (result_sort o sorts.0)) fault

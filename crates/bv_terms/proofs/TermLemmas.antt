@@ -1,5 +1,5 @@
 -- What is known of a well-sorted term: its sort has a width from 1 to 64, and its value is of its sort.
-use Rattle.std.proofs.Common.{◌≡◌, ℕ, ◌^◌, ◌<◌, ◌≤◌, Bool, true, false, cond, ◌&&◌, nat_lt, eqb, List, [], ◌∷◌, length, slice_get, unwrap_or, Option, None, Some, option_and_then, refl, sym, ap, ◌∙◌, subst, arith}
+use Rattle.std.proofs.Common.{slice_get, zero, suc, ◌≡◌, ℕ, ◌^◌, ◌<◌, ◌≤◌, Bool, true, false, cond, ◌&&◌, nat_lt, eqb, List, [], ◌∷◌, length, unwrap_or, Option, None, Some, option_and_then, refl, sym, ap, ◌∙◌, subst, arith}
 use Rattle.std.proofs.lemmas.Bool.Decides.{Decides-eqb, nat_tests}
 use Rattle.std.proofs.lemmas.Nat.{pow_pos, mod_below}
 use Rattle.std.proofs.lemmas.Option.{same_Some}
@@ -12,7 +12,7 @@ use Rattle.bv_terms.specs.declared.value.Sort.TheVariants as sort
 use Rattle.bv_terms.specs.declared.value.Value.{Value}
 use Rattle.bv_terms.specs.declared.value.Value.TheVariants as val
 use Rattle.bv_terms.specs.Term.{Term, Operands, Apply, End, Then, bits, op_value, value, values}
-use Rattle.bv_terms.specs.Sorts.{HasSort, HaveSorts, arity, is_width, is_indexed, misfit, fault_of, refusal, result_sort, op_sort, sort_unless, sort_of, sorts_of, IsSized, AreSized, InputsFit, AllInputsFit}
+use Rattle.bv_terms.specs.Sorts.{HasSort, HaveSorts, arity, is_width, is_indexed, same_sort, misfit, fault_of, refusal, result_sort, op_sort, sort_unless, sort_of, sorts_of, IsSized, AreSized, InputFits, InputsFit, AllInputsFit}
 
 -- an operation may stand over arguments of these sorts
 pub record IsFitting (o : Op) (ss : List Sort) : Type 0 where
@@ -189,11 +189,6 @@ no_value (s ∷ ss) vs l h = absurd (omega arith)
 bits-sorted : (w n : ℕ) → HasSort (sort.Bits w) (bits w n)
 bits-sorted w n = (refl, mod_below n (2 ^ w) (pow_pos w))
 
--- an input that an operation reads has a value of its sort
-abbrev pub InputFits : List Value → Op → Type 0
-InputFits inputs (op.Input k s) = (v : Value) × (slice_get inputs k ≡ Some v) × HasSort s v
-InputFits inputs _ = Unit {0}
-
 constant_fits : (w n : ℕ) → (is_width w && nat_lt n (2 ^ w)) ≡ true → n < 2 ^ w
 constant_fits w n h = grind (arith, nat_tests)
 
@@ -270,3 +265,23 @@ mutual
       let parts = sorts_of-some t ts ss h in
       subst (λ ss. HaveSorts ss (value inputs t ∷ values inputs ts)) (sym parts.2)
       (value-sorted inputs t parts.0 parts.3 i.0, values-sorted inputs ts parts.1 parts.4 i.1)
+
+-- ---- sorts one by one
+
+-- the value in a place is of the sort in that place
+pub HaveSorts-at : (ss : List Sort) (vs : List Value) → HaveSorts ss vs → (k : ℕ) (s : Sort) → slice_get ss k ≡ Some s → (v : Value) × (slice_get vs k ≡ Some v) × HasSort s v
+HaveSorts-at [] vs h k s e = cc
+HaveSorts-at (t ∷ ss) [] h k s e = absurd h
+HaveSorts-at (t ∷ ss) (v ∷ vs) h zero s e = (v, refl, subst (λ s. HasSort s v) (same_Some t s e) h.0)
+HaveSorts-at (t ∷ ss) (v ∷ vs) h (suc k) s e = HaveSorts-at ss vs h.1 k s e
+
+pub same_sort-true : (s t : Sort) → same_sort s t ≡ true → s ≡ t
+same_sort-true sort.Bool sort.Bool h = refl
+same_sort-true sort.Bool (sort.Bits w) h = cc
+same_sort-true sort.Bool sort.Mem h = cc
+same_sort-true (sort.Bits v) sort.Bool h = cc
+same_sort-true (sort.Bits v) (sort.Bits w) h = ap sort.Bits ((Decides-eqb v w).0 h)
+same_sort-true (sort.Bits v) sort.Mem h = cc
+same_sort-true sort.Mem sort.Bool h = cc
+same_sort-true sort.Mem (sort.Bits w) h = cc
+same_sort-true sort.Mem sort.Mem h = refl

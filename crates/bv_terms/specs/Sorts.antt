@@ -105,6 +105,11 @@ abbrev pub AreSized : List Sort → Type 0
 AreSized [] = Unit {0}
 AreSized (s ∷ ss) = IsSized s × AreSized ss
 
+-- an input that an operation reads has a value of its sort
+abbrev pub InputFits : List Value → Op → Type 0
+InputFits inputs (op.Input k s) = (v : Value) × (slice_get inputs k ≡ Some v) × HasSort s v
+InputFits inputs _ = Unit {0}
+
 -- the inputs that stand in the term have values of their sorts
 unfoldable mutual
   pub InputsFit : List Value → Term → Type 0

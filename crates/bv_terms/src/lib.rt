@@ -12,3 +12,6 @@ mod value;
 pub use op::{MakeFault, Op, TermId};
 pub use terms::Terms;
 pub use value::{Env, Sort, Value};
+
+#[cfg(test)]
+mod tests;

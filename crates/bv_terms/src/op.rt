@@ -15,11 +15,15 @@ pub enum Op {
     Input { number: u32, sort: Sort },
     /// A constant. No argument.
     Bits { width: u8, number: u64 },
+    /// The bits of a bit-vector inverted.
     BvNot,
+    /// Two bit-vectors of one width, joined bit by bit.
     BvAnd,
     BvOr,
     BvXor,
+    /// The sum of two bit-vectors of one width, modulo 2^width.
     BvAdd,
+    /// The first of two bit-vectors of one width less the second, modulo 2^width.
     BvSub,
 }
 

@@ -6,6 +6,7 @@
 --   TERM      := NAME | literal | (OPERATOR TERM*)             well-sorted
 use Rattle.std.specs.Prelude.{◌≡◌, ℕ, ◌+◌, ◌^◌, ◌≤◌, List, [], ◌∷◌, length, map, sum, Option, Some, None, Bool, true, false, ◌&&◌, not, nat_le, if◌then◌else◌, codes, option_and_then, option_map, is_some, Contains, ◌⊎◌, IsTrue}
 use Rattle.std.specs.List.{list_all, list_any}
+use Rattle.std.specs.Str.{bytes_eq}
 use Rattle.bv_terms.specs.declared.op.Op.{Op}
 use Rattle.bv_terms.specs.declared.op.Op.TheVariants as op
 use Rattle.bv_terms.specs.declared.value.Sort.{Sort}
@@ -16,8 +17,11 @@ use Rattle.bv_terms.specs.Sorts.{sort_of}
 use Rattle.sexp_read.specs.Tree.{Tree, Trees, Word, Branch, End, Then, flatten, depth, depth_limit}
 use Rattle.sexp_read.specs.Token.{is_text_byte, tokens}
 use Rattle.isel_spec.specs.declared.definitions.Kind.TheVariants as kind
-use Rattle.isel_spec.specs.File.{File, Operation, Goal, is_between}
-use Rattle.isel_spec.specs.Text.{same_bytes, numeral, is_name, literal}
+use Rattle.isel_spec.specs.declared.subject.Subject.{Subject}
+use Rattle.isel_spec.specs.declared.subject.Subject.TheVariants.{Operation, Goal}
+use Rattle.isel_spec.specs.File as file
+use Rattle.isel_spec.specs.File.{File, is_between}
+use Rattle.isel_spec.specs.Text.{numeral, is_name, literal, each}
 
 -- the value, where a condition holds
 abbrev pub where_true : {A : Type 0} → Bool → A → Option A
@@ -27,12 +31,12 @@ where_true false x = None
 -- the operators of the form
 abbrev pub operator : List ℕ → Option Op
 operator bytes =
-    if same_bytes bytes (codes "bvnot") then Some op.BvNot
-    else if same_bytes bytes (codes "bvand") then Some op.BvAnd
-    else if same_bytes bytes (codes "bvor") then Some op.BvOr
-    else if same_bytes bytes (codes "bvxor") then Some op.BvXor
-    else if same_bytes bytes (codes "bvadd") then Some op.BvAdd
-    else if same_bytes bytes (codes "bvsub") then Some op.BvSub
+    if bytes_eq bytes (codes "bvnot") then Some op.BvNot
+    else if bytes_eq bytes (codes "bvand") then Some op.BvAnd
+    else if bytes_eq bytes (codes "bvor") then Some op.BvOr
+    else if bytes_eq bytes (codes "bvxor") then Some op.BvXor
+    else if bytes_eq bytes (codes "bvadd") then Some op.BvAdd
+    else if bytes_eq bytes (codes "bvsub") then Some op.BvSub
     else None
 
 -- a name and the sort of what it stands for
@@ -42,11 +46,15 @@ Binding = List ℕ × Sort
 -- the input that a name stands for, where the names from that number on are these
 abbrev pub input_named : ℕ → List Binding → List ℕ → Option Op
 input_named number [] name = None
-input_named number (b ∷ bs) name = if same_bytes b.0 name then Some (op.Input number b.1) else input_named (number + 1) bs name
+input_named number (b ∷ bs) name = if bytes_eq b.0 name then Some (op.Input number b.1) else input_named (number + 1) bs name
 
 abbrev pub option_or : {A : Type 0} → Option A → Option A → Option A
 option_or (Some x) other = Some x
 option_or None other = other
+
+-- the constant or the input that a word is
+abbrev pub leaf : List Binding → List ℕ → Option Op
+leaf scope word = option_or (literal word) (input_named 0 scope word)
 
 abbrev pub well_sorted : Term → Option Term
 well_sorted t = where_true (is_some (sort_of t)) t
@@ -54,7 +62,7 @@ well_sorted t = where_true (is_some (sort_of t)) t
 -- the term that a tree is, with these names in scope
 abbrev mutual
   pub term_of : List Binding → Tree → Option Term
-  term_of scope (Word first bytes) = option_map (λ o. Apply o term.End) (option_or (literal bytes) (input_named 0 scope bytes))
+  term_of scope (Word first bytes) = option_and_then (λ o. well_sorted (Apply o term.End)) (leaf scope bytes)
   term_of scope (Branch from to End) = None
   term_of scope (Branch from to (Then (Branch _ _ _) arguments)) = None
   term_of scope (Branch from to (Then (Word _ word) arguments)) =
@@ -65,111 +73,217 @@ abbrev mutual
   operands_of scope (Then t ts) =
       option_and_then (λ first. option_and_then (λ rest. Some (term.Then first rest)) (operands_of scope ts)) (term_of scope t)
 
--- `(_ BitVec W)`
-abbrev pub sort_in : Tree → Option Sort
-sort_in (Branch _ _ (Then (Word _ underscore) (Then (Word _ family) (Then (Word _ width) End)))) =
-    if same_bytes underscore (codes "_") && same_bytes family (codes "BitVec")
-    then option_map (λ w. sort.Bits w) (numeral 1 64 width)
-    else None
-sort_in _ = None
+-- How a tree is looked at: the bytes of a word, and the members of a list. What stands for trees is
+-- looked at in the same way.
+pub record View (Node : Type 0) : Type 0 where
+  pub word : Node → Option (List ℕ)
+  pub members : Node → Option (List Node)
 
+abbrev pub list_of : Trees → List Tree
+list_of End = []
+list_of (Then t ts) = t ∷ list_of ts
+
+abbrev pub word_in : Tree → Option (List ℕ)
+word_in (Word first bytes) = Some bytes
+word_in (Branch from to members) = None
+
+abbrev pub members_in : Tree → Option (List Tree)
+members_in (Word first bytes) = None
+members_in (Branch from to members) = Some (list_of members)
+
+abbrev pub tree_view : View Tree
+tree_view = record { word = word_in; members = members_in }
+
+abbrev pub none_of : {A : Type 0} → List A → Option ℕ
+none_of [] = Some 0
+none_of _ = None
+
+abbrev pub one_of : {A : Type 0} → List A → Option A
+one_of (a ∷ []) = Some a
+one_of _ = None
+
+abbrev pub two_of : {A : Type 0} → List A → Option (A × A)
+two_of (a ∷ b ∷ []) = Some (a, b)
+two_of _ = None
+
+abbrev pub three_of : {A : Type 0} → List A → Option (A × A × A)
+three_of (a ∷ b ∷ c ∷ []) = Some (a, b, c)
+three_of _ = None
+
+abbrev pub four_of : {A : Type 0} → List A → Option (A × A × A × A)
+four_of (a ∷ b ∷ c ∷ d ∷ []) = Some (a, b, c, d)
+four_of _ = None
+
+abbrev pub first_of : {A : Type 0} → List A → Option (A × List A)
+first_of [] = None
+first_of (a ∷ rest) = Some (a, rest)
+
+infixl 10 ◌>>=◌
+abbrev pub ◌>>=◌ : {A B : Type 0} → Option A → (A → Option B) → Option B
+o >>= f = option_and_then f o
+
+-- `(OPERATOR TERM*)`, as the operator and the arguments
+abbrev pub application_in : {N : Type 0} → View N → N → Option (Op × List N)
+application_in view node = do
+  members ← view.members node
+  first ← first_of members
+  word ← view.word first.0
+  op ← operator word
+  Some (op, first.1)
+
+-- `(_ BitVec W)`
+abbrev pub sort_from : List ℕ → List ℕ → List ℕ → Option Sort
+sort_from underscore family width =
+    if bytes_eq underscore (codes "_") && bytes_eq family (codes "BitVec") then option_map (λ w. sort.Bits w) (numeral 1 64 width) else None
+
+abbrev pub sort_in : {N : Type 0} → View N → N → Option Sort
+sort_in view node = do
+  members ← view.members node
+  parts ← three_of members
+  underscore ← view.word parts.0
+  family ← view.word parts.1
+  width ← view.word parts.2
+  sort_from underscore family width
+
+-- `(NAME SORT)`
 abbrev pub binding : List ℕ → Option Sort → Option Binding
 binding name None = None
 binding name (Some s) = where_true (is_name name) (name, s)
 
--- `(NAME SORT)`
-abbrev pub arg_in : Tree → Option Binding
-arg_in (Branch _ _ (Then (Word _ name) (Then s End))) = binding name (sort_in s)
-arg_in _ = None
+abbrev pub arg_in : {N : Type 0} → View N → N → Option Binding
+arg_in view node = do
+  members ← view.members node
+  parts ← two_of members
+  name ← view.word parts.0
+  binding name (sort_in view parts.1)
 
 -- `(reg NAME SORT)`
-abbrev pub goal_arg_in : Tree → Option Binding
-goal_arg_in (Branch _ _ (Then (Word _ reg) (Then (Word _ name) (Then s End)))) =
-    if same_bytes reg (codes "reg") then binding name (sort_in s) else None
-goal_arg_in _ = None
+abbrev pub goal_arg_in : {N : Type 0} → View N → N → Option Binding
+goal_arg_in view node = do
+  members ← view.members node
+  parts ← three_of members
+  reg ← view.word parts.0
+  name ← view.word parts.1
+  if bytes_eq reg (codes "reg") then binding name (sort_in view parts.2) else None
 
--- what each of the trees gives, where each gives something
-abbrev pub each_in : {A : Type 0} → (Tree → Option A) → Trees → Option (List A)
-each_in f End = Some []
-each_in f (Then t ts) = option_and_then (λ y. option_and_then (λ ys. Some (y ∷ ys)) (each_in f ts)) (f t)
+abbrev pub binding_in : {N : Type 0} → Subject → View N → N → Option Binding
+binding_in Operation view node = arg_in view node
+binding_in Goal view node = goal_arg_in view node
 
 -- no two are equal
 abbrev pub differ : List (List ℕ) → Bool
 differ [] = true
-differ (name ∷ names) = not (list_any (same_bytes name) names) && differ names
+differ (name ∷ names) = not (list_any (bytes_eq name) names) && differ names
 
 -- at most four arguments, under names that differ
-abbrev pub scope_of : Option (List Binding) → Option (List Binding)
-scope_of None = None
-scope_of (Some bs) = where_true (nat_le (length bs) 4 && differ (map (λ b. b.0) bs)) bs
+abbrev pub scope_of : List Binding → Option (List Binding)
+scope_of bs = where_true (nat_le (length bs) 4 && differ (map (λ b. b.0) bs)) bs
 
-abbrev pub definition_named : {A : Type 0} → List ℕ → (List Binding → Term → A) → Option (List Binding) → Tree → Option A
-definition_named name make None t = None
-definition_named name make (Some bs) t = option_and_then (λ result. where_true (is_name name) (make bs result)) (term_of bs t)
+-- the name of a definition, its arguments, its cost and its result
+pub record Parts (Node : Type 0) : Type 0 where
+  pub name : List ℕ
+  pub args : List Node
+  pub cost : ℕ
+  pub result : Node
 
--- `(op NAME (arg*) () (TERM))`
-abbrev pub operation_in : Tree → Option Operation
-operation_in (Branch _ _ (Then (Word _ head) (Then (Word _ name) (Then (Branch _ _ args) (Then (Branch _ _ End) (Then (Branch _ _ (Then t End)) End)))))) =
-    if same_bytes head (codes "op")
-    then definition_named name (λ bs result. record { name = name; args = map (λ b. b.1) bs; attrs = []; results = result ∷ [] })
-    (scope_of (each_in arg_in args)) t
-    else None
-operation_in _ = None
+-- an operation's attributes, of which it has none, or a goal's cost
+abbrev pub cost_in : {N : Type 0} → Subject → View N → N → Option ℕ
+cost_in Operation view node = view.members node >>= none_of
+cost_in Goal view node = view.word node >>= numeral 0 65535
 
--- `(goal NAME (garg*) COST (TERM))`
-abbrev pub goal_in : Tree → Option Goal
-goal_in (Branch _ _ (Then (Word _ head) (Then (Word _ name) (Then (Branch _ _ args) (Then (Word _ cost) (Then (Branch _ _ (Then t End)) End)))))) =
-    if same_bytes head (codes "goal")
-    then option_and_then (λ c. definition_named name
-    (λ bs result. record { name = name; kinds = map (λ b. kind.Reg) bs; args = map (λ b. b.1) bs; cost = c; results = result ∷ [] })
-    (scope_of (each_in goal_arg_in args)) t) (numeral 0 65535 cost)
-    else None
-goal_in _ = None
+-- `NAME (arg*) () (TERM)` for an operation, `NAME (garg*) COST (TERM)` for a goal
+abbrev pub parts_in : {N : Type 0} → Subject → View N → List N → Option (Parts N)
+parts_in subject view nodes = do
+  parts ← four_of nodes
+  name ← view.word parts.0
+  args ← view.members parts.1
+  cost ← cost_in subject view parts.2
+  results ← view.members parts.3
+  result ← one_of results
+  where_true (is_name name) (record { name = name; args = args; cost = cost; result = result })
 
-pub data Definition : Type 0 where
-  OfOperation : Operation → Definition
-  OfGoal : Goal → Definition
+-- what an item defines
+pub record Definition : Type 0 where
+  pub subject : Subject
+  pub name : List ℕ
+  pub args : List Sort
+  pub cost : ℕ
+  pub result : Term
 
-abbrev pub item_in : Tree → Option Definition
-item_in t = option_or (option_map OfOperation (operation_in t)) (option_map OfGoal (goal_in t))
+abbrev pub definition_with : Subject → Parts Tree → List Binding → Option Definition
+definition_with subject parts bs =
+    option_map (λ t. record { subject = subject; name = parts.name; args = map (λ b. b.1) bs; cost = parts.cost; result = t }) (term_of bs parts.result)
 
-abbrev pub operations : List Definition → List Operation
+abbrev pub subject_of : List ℕ → Option Subject
+subject_of head = if bytes_eq head (codes "op") then Some Operation else if bytes_eq head (codes "goal") then Some Goal else None
+
+-- what the members after the head define
+abbrev pub defined : Subject → List Tree → Option Definition
+defined subject trees = do
+  parts ← parts_in subject tree_view trees
+  scope ← option_and_then scope_of (each (binding_in subject tree_view) parts.args)
+  definition_with subject parts scope
+
+-- `(op ..)` or `(goal ..)`
+abbrev pub definition_in : Tree → Option Definition
+definition_in tree = do
+  members ← members_in tree
+  first ← first_of members
+  head ← word_in first.0
+  subject ← subject_of head
+  defined subject first.1
+
+abbrev pub operations : List Definition → List file.Operation
 operations [] = []
-operations (OfOperation o ∷ items) = o ∷ operations items
-operations (OfGoal g ∷ items) = operations items
+operations (d ∷ ds) = operation_with d.subject d (operations ds)
+  where
+    operation_with : Subject → Definition → List file.Operation → List file.Operation
+    operation_with Operation d os = record { name = d.name; args = d.args; attrs = []; results = d.result ∷ [] } ∷ os
+    operation_with Goal d os = os
 
-abbrev pub goals : List Definition → List Goal
+abbrev pub goals : List Definition → List file.Goal
 goals [] = []
-goals (OfOperation o ∷ items) = goals items
-goals (OfGoal g ∷ items) = g ∷ goals items
+goals (d ∷ ds) = goal_with d.subject d (goals ds)
+  where
+    goal_with : Subject → Definition → List file.Goal → List file.Goal
+    goal_with Operation d gs = gs
+    goal_with Goal d gs =
+        record { name = d.name; kinds = map (λ s. kind.Reg) d.args; args = d.args; cost = d.cost; results = d.result ∷ [] } ∷ gs
 
 -- `(isel-spec 1 P)`
-abbrev pub pointer_in : Tree → Option ℕ
-pointer_in (Branch _ _ (Then (Word _ head) (Then (Word _ version) (Then (Word _ pointer) End)))) =
-    if same_bytes head (codes "isel-spec") && same_bytes version (codes "1") then numeral 1 64 pointer else None
-pointer_in _ = None
+abbrev pub pointer_in : {N : Type 0} → View N → N → Option ℕ
+pointer_in view node = do
+  members ← view.members node
+  parts ← three_of members
+  head ← view.word parts.0
+  version ← view.word parts.1
+  pointer ← view.word parts.2
+  if bytes_eq head (codes "isel-spec") && bytes_eq version (codes "1") then numeral 1 64 pointer else None
 
--- how many values of the sort there are, as bits
+-- how many bits a value of the sort has
 abbrev pub bits_of : Sort → ℕ
 bits_of sort.Bool = 1
 bits_of (sort.Bits w) = w
 bits_of sort.Mem = 0
 
 -- one to six operations and one goal, with at most 12 bits of inputs, under names that differ
-abbrev pub is_small : List Operation → List Goal → Bool
+abbrev pub is_small : List file.Operation → List file.Goal → Bool
 is_small os [] = false
 is_small os (g ∷ []) =
-    is_between 1 6 (length os) && nat_le (sum (map bits_of g.args)) 12 && differ (g.name ∷ map (λ (o : Operation). o.name) os)
+    is_between 1 6 (length os) && nat_le (sum (map bits_of g.args)) 12 && differ (g.name ∷ map (λ (o : file.Operation). o.name) os)
 is_small os (g ∷ h ∷ gs) = false
 
 abbrev pub file_with : ℕ → List Definition → Option File
-file_with pointer items =
-    where_true (is_small (operations items) (goals items)) (record { pointer = pointer; ops = operations items; goals = goals items })
+file_with pointer ds =
+    where_true (is_small (operations ds) (goals ds)) (record { pointer = pointer; ops = operations ds; goals = goals ds })
 
 -- the file that the trees of a text are
-abbrev pub file_in : Trees → Option File
-file_in End = None
-file_in (Then head items) = option_and_then (λ p. option_and_then (file_with p) (each_in item_in items)) (pointer_in head)
+abbrev pub file_in : List Tree → Option File
+file_in trees = do
+  first ← first_of trees
+  pointer ← pointer_in tree_view first.0
+  definitions ← each definition_in first.1
+  file_with pointer definitions
 
 -- a term stands in a term
 unfoldable mutual
@@ -193,6 +307,6 @@ pub record IsFirstFile (bytes : List ℕ) (f : File) : Type 0 where
   -- no comment begins, and there are at most 2 ^ 20 bytes
   pub plain : ¬ Contains bytes 59
   pub short : length bytes ≤ 2 ^ 20
-  pub says : file_in trees ≡ Some f
-  pub few_in_ops : (o : Operation) → Contains f.ops o → HasFewTerms o.results
-  pub few_in_goals : (g : Goal) → Contains f.goals g → HasFewTerms g.results
+  pub says : file_in (list_of trees) ≡ Some f
+  pub few_in_ops : (o : file.Operation) → Contains f.ops o → HasFewTerms o.results
+  pub few_in_goals : (g : file.Goal) → Contains f.goals g → HasFewTerms g.results

@@ -2,3 +2,8 @@ pub mod File
 pub mod Spec
 pub mod Text
 pub mod Form
+pub mod Items
+pub mod Reading
+pub mod Fault
+pub mod Nodes
+pub mod Defined

@@ -1,5 +1,5 @@
 -- Which fault a text has: the first from the left, or else a list that is never closed.
-use Rattle.std.specs.Prelude.{◌≡◌, ℕ, ◌+◌, ◌≤◌, false, List, [], ◌∷◌, ◌++◌, length, Some, slice_get}
+use Rattle.std.specs.Prelude.{◌≡◌, ℕ, ◌+◌, ◌≤◌, false, List, [], ◌∷◌, ◌++◌, length, Some, slice_get, Result, Err, ◌⊎◌}
 use Rattle.sexp_read.specs.declared.fault.SexpFault.{SexpFault}
 use Rattle.sexp_read.specs.declared.fault.SexpFault.TheVariants.{NotText, Unclosed, Stray, Deep, NoMemory}
 use Rattle.sexp_read.specs.Token.{is_text_byte, Token, Open, Close, Atom, tokens}
@@ -43,3 +43,7 @@ IsFault bytes NoMemory = ⊥
 IsFault bytes (Unclosed place) =
     ((fault : SexpFault) → StandsIn bytes fault → ⊥) × ((inner : List ℕ) × (open_lists (tokens bytes) ≡ inner ++ place ∷ []))
 IsFault bytes fault = StandsIn bytes fault × ((other : SexpFault) → StandsIn bytes other → place_of fault ≤ place_of other)
+
+-- what a call returned, unless memory ran out
+abbrev pub IsButForMemory : {A : Type 0} → Result A SexpFault → Result A SexpFault → Type 0
+IsButForMemory expected result = (result ≡ expected) ⊎ (result ≡ Err NoMemory)

@@ -1,5 +1,5 @@
 -- Which forest a text is, and what an item of it stands for.
-use Rattle.std.specs.Prelude.{◌≡◌, ℕ, ◌+◌, ◌≤◌, List, [], ◌∷◌, ◌++◌, length, Option, Some, None, slice_get, slice_range, option_and_then, IsTrue}
+use Rattle.std.specs.Prelude.{◌≡◌, ℕ, ◌+◌, ◌≤◌, List, [], ◌∷◌, ◌++◌, length, Option, Some, None, slice_get, slice_range, option_map, option_and_then, IsTrue}
 use Rattle.std.specs.List.{list_all}
 use Rattle.sexp_read.specs.declared.forest.Forest.{Forest}
 use Rattle.sexp_read.specs.declared.forest.Item.{Item}
@@ -54,20 +54,23 @@ abbrev mutual
   DenoteAll bytes items (number ∷ numbers) (Then tree trees) = Denotes bytes items number tree × DenoteAll bytes items numbers trees
   DenoteAll bytes items _ _ = ⊥
 
--- the bytes of an atom, and the children of a list
-abbrev pub text_in : List ℕ → Body → Option (List ℕ)
-text_in bytes body.Atom = Some bytes
-text_in bytes (body.List children) = None
+-- the bytes of an item's span, those of an atom alone, and the children of a list
+abbrev pub text_of : List ℕ → Item → List ℕ
+text_of bytes item = slice_range bytes item.from item.to
 
-abbrev pub atom_text : List ℕ → Item → Option (List ℕ)
-atom_text bytes item = text_in (slice_range bytes item.from item.to) item.body
+abbrev pub text_at : List ℕ → List Item → ℕ → Option (List ℕ)
+text_at bytes items number = option_map (text_of bytes) (slice_get items number)
+
+abbrev pub atom_in : Body → List ℕ → Option (List ℕ)
+atom_in body.Atom text = Some text
+atom_in (body.List children) text = None
+
+abbrev pub atom_at : List ℕ → List Item → ℕ → Option (List ℕ)
+atom_at bytes items number = option_and_then (λ (item : Item). atom_in item.body (text_of bytes item)) (slice_get items number)
 
 abbrev pub children_in : Body → Option (List ℕ)
 children_in body.Atom = None
 children_in (body.List children) = Some children
-
-abbrev pub text_at : List ℕ → List Item → ℕ → Option (List ℕ)
-text_at bytes items number = option_and_then (atom_text bytes) (slice_get items number)
 
 abbrev pub children_at : List Item → ℕ → Option (List ℕ)
 children_at items number = option_and_then (λ (item : Item). children_in item.body) (slice_get items number)
@@ -75,4 +78,4 @@ children_at items number = option_and_then (λ (item : Item). children_in item.b
 -- the bytes of a list's first member, where it is an atom
 abbrev pub head_at : List ℕ → List Item → ℕ → Option (List ℕ)
 head_at bytes items number =
-    option_and_then (λ (children : List ℕ). option_and_then (text_at bytes items) (slice_get children 0)) (children_at items number)
+    option_and_then (λ (children : List ℕ). option_and_then (atom_at bytes items) (slice_get children 0)) (children_at items number)

@@ -2,3 +2,4 @@ pub mod Token
 pub mod Tree
 pub mod Forest
 pub mod Fault
+pub mod Progress

@@ -1,19 +1,13 @@
 -- The tokens of a text: parentheses and words, outside comments.
 use Rattle.std.specs.Prelude.{ℕ, ◌+◌, ◌==◌, ◌&&◌, ◌||◌, nat_le, Bool, if◌then◌else◌, List, [], ◌∷◌, ◌++◌}
+use Rattle.sexp_read.specs.declared.token.Class.{Class}
+use Rattle.sexp_read.specs.declared.token.Class.TheVariants.{Blank, LineFeed, Semicolon, Left, Right, Letter}
 
 -- A byte of a text: a printable ASCII character, a tab, a line feed or a carriage return.
 abbrev pub is_text_byte : ℕ → Bool
 is_text_byte b = (nat_le 32 b && nat_le b 126) || (b == 9 || (b == 10 || b == 13))
 
--- What a byte does outside a comment: any byte with no other part to play is a letter of a word.
-pub data Class : Type 0 where
-  Blank : Class
-  LineFeed : Class
-  Semicolon : Class
-  Left : Class
-  Right : Class
-  Letter : Class
-
+-- what a byte does outside a comment: any byte with no other part to play is a letter of a word
 abbrev pub class_of : ℕ → Class
 class_of b =
     if b == 40 then Left

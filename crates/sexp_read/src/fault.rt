@@ -1,3 +1,8 @@
+ghost use Rattle.std.specs.Prelude.{◌≡◌};
+ghost use Rattle.sexp_read.specs.declared.fault.SexpFault.TheVariants.{NoMemory};
+
+use std::alloc::{AllocError, AllocFailed};
+
 /// Why bytes are not a text of words and lists. Each fault names the place of a byte, counted from 0.
 ///
 /// Of `NotText`, `Stray` and `Deep` the one at the least place is answered. `Unclosed` is answered
@@ -14,4 +19,20 @@ pub enum SexpFault {
     Deep(usize),
     /// Memory ran out.
     NoMemory,
+}
+
+impl From<AllocError> for SexpFault {
+    ghost from_gives = { λ _ fault. fault ≡ NoMemory };
+
+    fn from(_error: AllocError) -> SexpFault {
+        SexpFault::NoMemory
+    }
+}
+
+impl<T: Drop> From<AllocFailed<T>> for SexpFault {
+    ghost from_gives = { λ _ fault. fault ≡ NoMemory };
+
+    fn from(_error: AllocFailed<T>) -> SexpFault {
+        SexpFault::NoMemory
+    }
 }

@@ -1,8 +1,20 @@
 //! The lexical layer of every text: words and nested lists, each with its span.
+//!
+//! `token` says what a byte does, `builder` keeps the items of the tokens so far and the lists that are
+//! open, `reader` goes over the bytes once, and `forest` is what is read, with its accessors. What bytes
+//! are which forest, and which fault comes where they are none, stands in `specs/`, from `Token` by
+//! `Tree` and `Forest` to `Fault`; `Progress` is for the reader's own functions.
 #![tactic(auto)]
 
+mod builder;
 mod fault;
 mod forest;
+mod reader;
+mod token;
 
 pub use fault::SexpFault;
 pub use forest::{Body, Forest, Item};
+pub use reader::{one_fault, one_reading, read};
+
+#[cfg(test)]
+mod tests;

@@ -1,0 +1,12 @@
+use bv_terms::{Sort, TermId};
+use lists::Named;
+
+/// What an item of a file defines: its name, its arguments with their sorts, its cost, which is 0 for
+/// an operation, and its result.
+#[derive(Drop)]
+pub struct Defined {
+    pub name: String,
+    pub scope: Named<Sort>,
+    pub cost: u32,
+    pub result: TermId,
+}

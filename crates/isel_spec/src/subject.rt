@@ -1,0 +1,8 @@
+/// What an item of a file defines.
+#[derive(Clone, Copy, Debug)]
+pub enum Subject {
+    /// An IR operation.
+    Operation,
+    /// A target instruction.
+    Goal,
+}

@@ -1,0 +1,8 @@
+pub mod TreeLemmas
+pub mod PartialLemmas
+pub mod BuilderLemmas
+pub mod ListLemmas
+pub mod SpanLemmas
+pub mod ForestLemmas
+pub mod FaultLemmas
+pub mod ReaderLemmas
