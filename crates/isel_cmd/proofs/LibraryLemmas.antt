@@ -75,7 +75,7 @@ input_from_rule f g w k p wf none rule =
 
 -- ---- one node
 
--- the place of an operation from the op-th on, and an operation that gives the sort
+-- the test of an operation's sort: it passes exactly where the operation gives the sort that is wanted
 gives_sort : (w : Wanted) (o : Operation) → option_map_or (same_sort w.sort) (sort_of (result_in o.results)) false ≡ true → sort_of (result_in o.results) ≡ Some w.sort
 gives_sort w o h = go (sort_of (result_in o.results)) h
   where
@@ -94,7 +94,7 @@ if_in : {X : Type 0} (b : Bool) (xs : List X) (x : X) → b ≡ true → In xs x
 if_in true xs x e h = h
 if_in false xs x e h = cc
 
--- the operations from the op-th on: which patterns are theirs
+-- a pattern of one of the operations that stand from the op-th place on
 abbrev IsFromOperation : Wanted → ℕ → List Operation → Pattern → Type 0
 IsFromOperation w op os p = (d : ℕ) × (o : Operation) × (slice_get os d ≡ Some o) × In (operation_rules w (op + d) o) p
 
@@ -246,10 +246,6 @@ operation_AreRules f g w k = record {
 
 no_input_rule : (f : File) (g : Goal) (w : Wanted) → IsTask f g w → input_rules w ≡ [] → (p : Pattern) → IsWellFormed f g p → length p.nodes ≡ 0 → IsRule f g p → ⊥
 no_input_rule f g w k none p wf size rule = let found : In [] p = subst (λ xs. In xs p) none (input_from_rule f g w k p wf size rule) in found
-
--- rules of a size, and a rule of that size
-abbrev IsFound : File → Goal → ℕ → List Pattern → Type 0
-IsFound f g size xs = (p : Pattern) × IsRuleOfSize f g size p
 
 cases_nil : (xs : List Pattern) → (xs ≡ []) ⊎ ((p : Pattern) × In xs p)
 cases_nil [] = inl refl

@@ -54,7 +54,7 @@ In_of_map f (z ∷ xs) y (inl e) = (z, inl refl, e)
 In_of_map f (z ∷ xs) y (inr h) = let r = In_of_map f xs y h in (r.0, inr r.1, r.2)
 
 -- what a filter keeps
-In-cond : {X : Type 0} (b : Bool) (z : X) (xs : List X) (x : X) → In (cond b (z ∷ xs) xs) x → ((z ≡ x) × (b ≡ true)) ⊎ In xs x
+pub In-cond : {X : Type 0} (b : Bool) (z : X) (xs : List X) (x : X) → In (cond b (z ∷ xs) xs) x → ((z ≡ x) × (b ≡ true)) ⊎ In xs x
 In-cond true z xs x (inl e) = inl (e, refl)
 In-cond true z xs x (inr h) = inr h
 In-cond false z xs x h = inr h

@@ -8,7 +8,7 @@ use Rattle.bv_terms.specs.declared.value.Sort.{Sort}
 use Rattle.bv_terms.specs.declared.value.Sort.TheVariants as sort
 use Rattle.bv_terms.specs.Sorts.{same_sort}
 use Rattle.isel_cmd.specs.Candidates.{places_from, places, longer, tuples}
-use Rattle.isel_cmd.proofs.ListLemmas.{In, In-append_left, In-append_right, In-append_cases, In-map, In_of_map, IsOrdered, IsOrdered-map, IsOrdered-append}
+use Rattle.isel_cmd.proofs.ListLemmas.{In, In-cond, In-append_left, In-append_right, In-append_cases, In-map, In_of_map, IsOrdered, IsOrdered-map, IsOrdered-append}
 
 -- the test of sorts decides whether they are equal
 pub same_sort-true : (s t : Sort) → same_sort s t ≡ true → s ≡ t
@@ -32,11 +32,6 @@ same_sort-refl s t e = subst (λ u. same_sort s u ≡ true) e (same_sort_itself 
 
 -- ---- places
 
-in_cond : {X : Type 0} (b : Bool) (z : X) (xs : List X) (x : X) → In (cond b (z ∷ xs) xs) x → ((z ≡ x) × (b ≡ true)) ⊎ In xs x
-in_cond true z xs x (inl e) = inl (e, refl)
-in_cond true z xs x (inr h) = inr h
-in_cond false z xs x h = inr h
-
 keeps_in : {X : Type 0} (b : Bool) (z : X) (xs : List X) (x : X) → In xs x → In (cond b (z ∷ xs) xs) x
 keeps_in true z xs x h = inr h
 keeps_in false z xs x h = h
@@ -49,7 +44,7 @@ takes_in false z xs e = cc
 pub slice_get-places_from : (k : ℕ) (s : Sort) (ts : List Sort) (n : ℕ) → In (places_from k s ts) n → (d : ℕ) × (n ≡ k + d) × (slice_get ts d ≡ Some s)
 slice_get-places_from k s [] n h = absurd h
 slice_get-places_from k s (t ∷ ts) n h =
-    elim (in_cond (same_sort s t) k (places_from (k + 1) s ts) n h) [
+    elim (In-cond (same_sort s t) k (places_from (k + 1) s ts) n h) [
       | inl a ↦ (0, omega (arith, sym a.0), ap Some (sym (same_sort-true s t a.1)))
       | inr b ↦ (let r = slice_get-places_from (k + 1) s ts n b in (suc r.0, omega (arith, r.1), r.2))
     ]
