@@ -1,6 +1,8 @@
 //! Patterns of IR operations: which are well-formed, what they compute, and their order.
 #![tactic(auto)]
 
+mod comparison;
 mod pattern;
 
+pub use comparison::order;
 pub use pattern::{GoalAnswer, Node, Pattern, Src};
