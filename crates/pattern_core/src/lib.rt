@@ -3,6 +3,8 @@
 
 mod comparison;
 mod pattern;
+mod walk;
 
 pub use comparison::order;
 pub use pattern::{GoalAnswer, Node, Pattern, Src};
+pub use walk::is_canonical;
