@@ -4,7 +4,9 @@
 mod comparison;
 mod pattern;
 mod walk;
+mod well_formed;
 
 pub use comparison::order;
 pub use pattern::{GoalAnswer, Node, Pattern, Src};
 pub use walk::is_canonical;
+pub use well_formed::is_well_formed;
