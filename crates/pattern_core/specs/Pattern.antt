@@ -70,9 +70,20 @@ pub record IsFitting (f : File) (g : Goal) (nodes : List Node) (k : ℕ) (n : No
   pub attrs : Pairwise (λ w a. a < 2 ^ w) operation.attrs n.attrs
   pub args : map (source_sort f g nodes k) n.args ≡ map (λ s. Some s) operation.args
 
+abbrev pub AreFitting : File → Goal → List Node → Type 0
+AreFitting f g nodes = (k : ℕ) (n : Node) → slice_get nodes k ≡ Some n → IsFitting f g nodes k n
+
 abbrev pub args_of : Option Node → List Src
 args_of None = []
 args_of (Some n) = n.args
+
+-- a result of node k
+abbrev pub IsOf : ℕ → Src → Type 0
+IsOf k s = (result : ℕ) × (s ≡ Out k result)
+
+-- one of the sources is a result of node k
+abbrev pub IsAmong : ℕ → List Src → Type 0
+IsAmong k sources = (result : ℕ) × Contains sources (Out k result)
 
 -- a later node or a result names node k
 abbrev pub IsNamed : Pattern → ℕ → Type 0
@@ -81,6 +92,6 @@ IsNamed p k = (result : ℕ) × (Contains p.results (Out k result) ⊎ ((j : ℕ
 -- what is a pattern for a goal
 pub record IsWellFormed (f : File) (g : Goal) (p : Pattern) : Type 0 where
   pub size : length p.nodes ≤ 6
-  pub nodes : (k : ℕ) (n : Node) → slice_get p.nodes k ≡ Some n → IsFitting f g p.nodes k n
+  pub nodes : AreFitting f g p.nodes
   pub results : map (source_sort f g p.nodes (length p.nodes)) p.results ≡ map sort_of g.results
   pub named : (k : ℕ) → k < length p.nodes → IsNamed p k

@@ -1,0 +1,4 @@
+pub mod OrderLemmas
+pub mod WalkLemmas
+pub mod SoundLemmas
+pub mod FitLemmas

@@ -1,0 +1,26 @@
+use Rattle.std.proofs.Common.{◌≡◌, ℕ, ◌+◌, ◌^◌, ◌<◌, ◌≤◌, true, false, [], length, map, get_or, Some, refl, sym, ap, ◌∙◌, subst, arith, slice_get}
+use Rattle.bv_terms.specs.declared.op.TermId.{TermId}
+use Rattle.bv_terms.specs.declared.value.Sort.{Sort}
+use Rattle.bv_terms.specs.declared.value.Sort.TheVariants as sort
+use Rattle.bv_terms.specs.Sorts.{sort_of}
+use Rattle.bv_terms.specs.Table.{term_at}
+use Rattle.isel_spec.specs.Spec.{file}
+use Rattle.pattern_core.specs.declared.pattern.Src.TheVariants.{Input}
+use Rattle.pattern_core.specs.declared.pattern.Node.{Node}
+use Rattle.pattern_core.specs.Pattern.{source_sort, Pairwise, IsFitting, IsOf, IsAmong, IsNamed}
+use Rattle.pattern_core.proofs.SoundLemmas.{looked_up, IsSoundResult-op, IsSoundResult-goal}
+use Rattle.pattern_core.proofs.FitLemmas.{never, no_answer, yes_answer, same-more, same-at, same-all, Pairwise-length, Pairwise-at, Pairwise-more, operation_sort-is, goal_sorts, fitting-answer, none_among, named-answer, results-of}
+use Rattle.std.proofs.lemmas.List.Elements.{All-more}
+use Rattle.std.proofs.lemmas.Option.{slice_get-get_or, get_or_from_slice_get, slice_get_within}
+use borrow.Author.Count.{below_more}
+use Rattle.pattern_core.proofs.well_formed.are_fitting.Goals as goal
+
+pub returns-then-not-is_fitting : goal.returns-then-not-is_fitting
+returns-then-not-is_fitting c = λ g h.
+    let nodes = c.args.nodes.now in
+    let n : Node = get_or nodes c.loop-place.place (record { op = 0; attrs = []; args = [] }) in
+    let at : slice_get nodes c.loop-place.place ≡ Some n = slice_get-get_or nodes c.loop-place.place (record { op = 0; attrs = []; args = [] }) c.loop-place-test.true in
+    no_answer (λ all. never c.is_fitting.result c.if-not-is_fitting.true (c.is_fitting.ensures g h n at) (all c.loop-place.place n at))
+
+pub returns : goal.returns
+returns c = λ g h. yes_answer (λ k n at. let l = slice_get_within c.args.nodes.now k n at in c.loop-place.invariant g h k n (omega arith) at)

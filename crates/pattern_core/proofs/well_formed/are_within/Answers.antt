@@ -1,0 +1,29 @@
+use Rattle.std.proofs.Common.{◌≡◌, ℕ, ◌+◌, ◌^◌, ◌<◌, ◌≤◌, true, false, length, map, get_or, Some, refl, sym, ap, ◌∙◌, subst, arith, slice_get}
+use Rattle.bv_terms.specs.declared.op.TermId.{TermId}
+use Rattle.bv_terms.specs.declared.value.Sort.{Sort}
+use Rattle.bv_terms.specs.declared.value.Sort.TheVariants as sort
+use Rattle.bv_terms.specs.Sorts.{sort_of}
+use Rattle.bv_terms.specs.Table.{term_at}
+use Rattle.isel_spec.specs.Spec.{file}
+use Rattle.pattern_core.specs.declared.pattern.Src.TheVariants.{Input}
+use Rattle.pattern_core.specs.declared.pattern.Node.{Node}
+use Rattle.pattern_core.specs.Pattern.{source_sort, Pairwise, IsFitting, IsOf, IsAmong, IsNamed}
+use Rattle.pattern_core.proofs.SoundLemmas.{looked_up, IsSoundResult-op, IsSoundResult-goal}
+use Rattle.pattern_core.proofs.FitLemmas.{never, no_answer, yes_answer, same-more, same-at, same-all, Pairwise-length, Pairwise-at, Pairwise-more, operation_sort-is, goal_sorts, fitting-answer, none_among, named-answer, results-of}
+use Rattle.std.proofs.lemmas.List.Elements.{All-more}
+use Rattle.std.proofs.lemmas.Option.{slice_get-get_or, get_or_from_slice_get, slice_get_within}
+use borrow.Author.Count.{below_more}
+use Rattle.pattern_core.proofs.well_formed.are_within.Goals as goal
+
+pub returns-then-widths-numbers : goal.returns-then-widths-numbers
+returns-then-widths-numbers c =
+    no_answer (λ h. let e = Pairwise-length (λ w a. a < 2 ^ w) c.args.widths.now c.args.numbers.now h in c.if-widths-numbers.true e)
+
+pub returns-then-not-is_within : goal.returns-then-not-is_within
+returns-then-not-is_within c =
+    no_answer (λ h. never c.is_within.result c.if-not-is_within.true c.is_within.ensures
+    (Pairwise-at (λ w a. a < 2 ^ w) c.args.widths.now c.args.numbers.now c.loop-place.place 0 0 c.loop-place-test.true h))
+
+pub loop-place-preserved : goal.loop-place-preserved
+loop-place-preserved c =
+    Pairwise-more (λ w a. a < 2 ^ w) c.args.widths.now c.args.numbers.now c.loop-place.place 0 0 c.loop-place-test.true (omega arith) (c.is_within.ensures.0 c.if-not-is_within.false) c.loop-place.invariant

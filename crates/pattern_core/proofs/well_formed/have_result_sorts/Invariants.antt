@@ -1,0 +1,13 @@
+use Rattle.std.proofs.Common.{◌≡◌, ℕ, ◌<◌, ◌^◌, length, map, take, Some, slice_get, All}
+use Rattle.bv_terms.specs.declared.value.Sort.{Sort}
+use Rattle.bv_terms.specs.Sorts.{sort_of}
+use Rattle.bv_terms.specs.declared.op.TermId.{TermId}
+use Rattle.bv_terms.specs.Table.{term_at}
+use Rattle.isel_spec.specs.File.{Goal}
+use Rattle.isel_spec.specs.Spec.{file}
+use Rattle.pattern_core.specs.declared.pattern.Node.{Node}
+use Rattle.pattern_core.specs.Pattern.{source_sort, Pairwise, IsFitting, IsOf, IsAmong, IsNamed}
+use Rattle.pattern_core.proofs.well_formed.have_result_sorts.Given as goal
+
+abbrev pub invariant-loop-place : goal.invariant-loop-place
+invariant-loop-place l = (g : Goal) → slice_get (file l.spec).goals l.goal ≡ Some g → map (source_sort (file l.spec) g l.nodes (length l.nodes)) (take l.place l.sources) ≡ map (λ (at : TermId). sort_of (term_at l.spec.terms at)) (take l.place l.results)

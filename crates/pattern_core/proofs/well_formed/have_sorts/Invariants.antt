@@ -1,0 +1,11 @@
+use Rattle.std.proofs.Common.{◌≡◌, ℕ, ◌<◌, ◌^◌, length, map, take, Some, slice_get, All}
+use Rattle.bv_terms.specs.declared.value.Sort.{Sort}
+use Rattle.bv_terms.specs.Sorts.{sort_of}
+use Rattle.isel_spec.specs.File.{Goal}
+use Rattle.isel_spec.specs.Spec.{file}
+use Rattle.pattern_core.specs.declared.pattern.Node.{Node}
+use Rattle.pattern_core.specs.Pattern.{source_sort, Pairwise, IsFitting, IsOf, IsAmong, IsNamed}
+use Rattle.pattern_core.proofs.well_formed.have_sorts.Given as goal
+
+abbrev pub invariant-loop-place : goal.invariant-loop-place
+invariant-loop-place l = (g : Goal) → slice_get (file l.spec).goals l.goal ≡ Some g → map (source_sort (file l.spec) g l.nodes l.count) (take l.place l.sources) ≡ map (λ (s : Sort). Some s) (take l.place l.sorts)

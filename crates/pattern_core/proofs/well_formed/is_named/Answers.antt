@@ -1,0 +1,28 @@
+use Rattle.std.proofs.Common.{◌≡◌, ℕ, ◌+◌, ◌^◌, ◌<◌, ◌≤◌, true, false, length, map, get_or, Some, refl, sym, ap, ◌∙◌, subst, arith, slice_get}
+use Rattle.bv_terms.specs.declared.op.TermId.{TermId}
+use Rattle.bv_terms.specs.declared.value.Sort.{Sort}
+use Rattle.bv_terms.specs.declared.value.Sort.TheVariants as sort
+use Rattle.bv_terms.specs.Sorts.{sort_of}
+use Rattle.bv_terms.specs.Table.{term_at}
+use Rattle.isel_spec.specs.Spec.{file}
+use Rattle.pattern_core.specs.declared.pattern.Src.TheVariants.{Input}
+use Rattle.pattern_core.specs.declared.pattern.Node.{Node}
+use Rattle.pattern_core.specs.Pattern.{source_sort, Pairwise, IsFitting, IsOf, IsAmong, IsNamed}
+use Rattle.pattern_core.proofs.SoundLemmas.{looked_up, IsSoundResult-op, IsSoundResult-goal}
+use Rattle.pattern_core.proofs.FitLemmas.{never, no_answer, yes_answer, same-more, same-at, same-all, Pairwise-length, Pairwise-at, Pairwise-more, operation_sort-is, goal_sorts, fitting-answer, none_among, named-answer, results-of}
+use Rattle.std.proofs.lemmas.List.Elements.{All-more}
+use Rattle.std.proofs.lemmas.Option.{slice_get-get_or, get_or_from_slice_get, slice_get_within}
+use borrow.Author.Count.{below_more}
+use Rattle.pattern_core.proofs.well_formed.is_named.Goals as goal
+
+pub loop-other-preserved : goal.loop-other-preserved
+loop-other-preserved c =
+    let nodes = c.as_slice-other-items.result.now in
+    let item = c.other-item.result in
+    let here : IsAmong c.args.node (get_or nodes c.loop-other.other-index item).args → ⊥ =
+    λ h. never c.is_among.result c.if-is_among.false c.is_among.ensures (subst (IsAmong c.args.node) (sym (c.as_slice.ensures ∙ ap (λ (n : Node). n.args) c.other-item.is)) h) in
+    All-more (λ (n : Node). IsAmong c.args.node n.args → ⊥) nodes c.loop-other.other-index item c.loop-other-test.true c.loop-other.invariant here
+
+pub returns : goal.returns
+returns c =
+    named-answer c.args.pattern.now c.args.node c.as_slice-other-items.result.now c.as_slice-2.result.now c.loop-other.other-index c.is_among-2.result c.as_slice-other-items.ensures c.as_slice-2.ensures c.loop-other-test.false c.loop-other.invariant c.is_among-2.ensures
