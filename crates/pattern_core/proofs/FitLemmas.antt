@@ -111,8 +111,7 @@ pub fitting-answer : (s : Spec) (g : Goal) (nodes : List Node) (place k : ℕ) (
     → (b ≡ true) ↔ (map (source_sort (file s) g nodes place) args ≡ map (λ (x : Sort). Some x) sorts) → (b ≡ true) ↔ IsFitting (file s) g nodes place n
 fitting-answer s g nodes place k n name d widths numbers args sorts b op e w m a t within iff =
     let o : Operation = operation s.terms (name, d) in
-    let there : slice_get (file s).ops n.op ≡ Some o = ap (slice_get (file s).ops) (sym op) ∙ operation_is s k name d e in
-    (
+    let there : slice_get (file s).ops n.op ≡ Some o = ap (slice_get (file s).ops) (sym op) ∙ operation_is s k name d e in (
       λ yes. record {
         operation = o;
         in_file = there;
@@ -138,8 +137,7 @@ none_in node r (n ∷ ns) all (suc j) h = none_in node r ns (All-tail (λ (n : N
 pub named-answer : (p : Pattern) (node : ℕ) (nodes : List Node) (xs : List Src) (i : ℕ) (b : Bool) → nodes ≡ p.nodes → xs ≡ p.results → length nodes ≤ i → All (λ (n : Node). IsAmong node n.args → ⊥) (take i nodes)
     → (b ≡ true) ↔ IsAmong node xs → (b ≡ true) ↔ IsNamed p node
 named-answer p node nodes xs i b e f l all iff =
-    let whole : All (λ (n : Node). IsAmong node n.args → ⊥) p.nodes = subst (All (λ (n : Node). IsAmong node n.args → ⊥)) (take_all i nodes l ∙ e) all in
-    (
+    let whole : All (λ (n : Node). IsAmong node n.args → ⊥) p.nodes = subst (All (λ (n : Node). IsAmong node n.args → ⊥)) (take_all i nodes l ∙ e) all in (
       λ yes. let a = iff.0 yes in (a.0, inl (subst (λ ys. Contains ys (Out node a.0)) f a.1)),
       λ h. elim h.1 [
         | inl a ↦ iff.1 (h.0, subst (λ ys. Contains ys (Out node h.0)) (sym f) a)

@@ -131,8 +131,8 @@ pub HasWalked-more : (nodes : List Node) (bound count left more : ℕ) (xs : Lis
 HasWalked-more nodes bound count left more xs i d h l before within step = record {
   within = within;
   so_far = λ deep b.
-    h.so_far deep b ∙ at_drop_more (fold (walk deep nodes) (below left)) xs i d l
-    ∙ ap (λ start. fold (walk deep nodes) start (drop (i + 1) xs)) (step deep (IsBefore-more bound deep (get_or xs i d) b (All-get_or (IsBefore bound) xs i d l before)));
+      h.so_far deep b ∙ at_drop_more (fold (walk deep nodes) (below left)) xs i d l
+      ∙ ap (λ start. fold (walk deep nodes) start (drop (i + 1) xs)) (step deep (IsBefore-more bound deep (get_or xs i d) b (All-get_or (IsBefore bound) xs i d l before)));
 }
 
 pub HasWalked-fails : (nodes : List Node) (bound count left : ℕ) (xs : List Src) (i : ℕ) (d : Src) → HasWalked nodes bound count left xs (drop i xs) → i < length xs → All (IsBefore bound) xs
@@ -228,8 +228,7 @@ canonical-fails p nodes xs e f out h = out (length nodes) (omega arith) (length 
 pub canonical-decides : (p : Pattern) (nodes : List Node) (xs : List Src) (left : ℕ) → nodes ≡ p.nodes → xs ≡ p.results → ((deep : ℕ) → length nodes ≤ deep → fold (walk deep nodes) (below 0) xs ≡ below left)
     → (nat_eq left (length nodes) ≡ true) ↔ IsCanonical p
 canonical-decides p nodes xs left e f done =
-    let ends = done (length nodes) (omega arith) in
-    (
+    let ends = done (length nodes) (omega arith) in (
       λ t. canonical-from p nodes xs e f (ends ∙ ap below (eqb-true left (length nodes) t)),
       λ h. eq-eqb left (length nodes) (same_count left (length nodes) (sym ends ∙ canonical-of p nodes xs e f h)),
     )

@@ -12,3 +12,6 @@ pub use meaning::eval_goal;
 pub use pattern::{GoalAnswer, Node, Pattern, Src};
 pub use walk::is_canonical;
 pub use well_formed::is_well_formed;
+
+#[cfg(test)]
+mod tests;

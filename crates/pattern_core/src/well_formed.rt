@@ -183,7 +183,14 @@ fn is_fitting(spec: &Spec, goal: u32, nodes: &[Node], place: usize) -> bool
         return false;
     }
     let arguments = node.args.as_slice();
-    have_sorts(spec, goal, nodes, place, arguments, operation.args.as_slice())
+    have_sorts(
+        spec,
+        goal,
+        nodes,
+        place,
+        arguments,
+        operation.args.as_slice(),
+    )
 }
 
 /// Whether each node's operation is in the file, and its attributes and arguments fit.
