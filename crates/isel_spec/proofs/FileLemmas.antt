@@ -24,9 +24,9 @@ use Rattle.isel_spec.specs.declared.subject.Subject.TheVariants.{Operation, Goal
 use Rattle.isel_spec.specs.File as file
 use Rattle.isel_spec.specs.File.{operation, goal, is_between, is_sound_op, is_sound_goal, stays_in, is_sound, File}
 use Rattle.isel_spec.specs.Text.{each}
-use Rattle.isel_spec.specs.Form.{Binding, Definition, bits_of, differ, is_small, file_with, file_in, operations, goals, definition_in, pointer_in, tree_view, where_true, list_of}
+use Rattle.isel_spec.specs.Form.{Binding, Definition, bits_of, differ, is_small, file_with, file_in, operations, goals, definition_in, pointer_in, tree_view, where_true, list_of, HasFewTerms}
 use Rattle.isel_spec.specs.Items.{item_view}
-use Rattle.isel_spec.specs.Defined.{definition_of, op_entries, goal_entries, IsWithin, AreDefinitions}
+use Rattle.isel_spec.specs.Defined.{definition_of, op_entries, goal_entries, IsWithin, AreDefinitions, IsFew, HasFew}
 use Rattle.isel_spec.proofs.Agreement.{pointer_agrees, all_agree}
 use Rattle.isel_spec.proofs.DefinitionReading.{Stays}
 use Rattle.isel_spec.proofs.EntryLemmas.{names, op_entry, goal_entry}
@@ -34,7 +34,7 @@ use Rattle.isel_spec.proofs.Scopes.{and_false, and_true, append-nothing, any_nam
 use Rattle.std.proofs.lemmas.Bool.{false≢true}
 use Rattle.std.proofs.lemmas.Option.{none-some, same_Some, slice_get_within}
 use Rattle.std.proofs.lemmas.Slice.Eq.{bytes_eq-Decides}
-use Rattle.std.proofs.lemmas.List.Elements.{Contains-append_right, All-from_recursion, recursion_from_All}
+use Rattle.std.proofs.lemmas.List.Elements.{Contains-append_right, All-from_recursion, recursion_from_All, All-contains, All-contains_itself, All-weaker}
 
 -- ---- bits
 
@@ -260,3 +260,47 @@ sound-file pointer table reads same within stay small =
     five (pointer == table.pointer) (nat_le (length (op_entries reads)) 64) (nat_le (length (goal_entries reads)) 256) (list_all (is_sound_op table) (op_entries reads)) (list_all (is_sound_goal table) (goal_entries reads))
     ((Decides-eqb pointer table.pointer).1 (sym same)) (le-true (length (op_entries reads)) 64 (omega (arith, limits.0))) (le-true (length (goal_entries reads)) 256 (omega (arith, limits.1)))
     (sound-ops table reads w s) (sound-goals table reads w s)
+
+-- ---- few terms
+
+few-ops : (table : Table) (reads : List Defined) → AllByRecursion (IsFew table) reads → AllByRecursion (λ (o : file.Operation). HasFewTerms o.results) (map (operation table) (op_entries reads))
+few-ops table [] h = tt
+few-ops table (read ∷ reads) h =
+    elim read.subject as (λ s. AllByRecursion (λ (o : file.Operation). HasFewTerms o.results) (map (operation table) (op_entries (record read { subject = s } ∷ reads))))
+    [ Operation ↦ (h.0, few-ops table reads h.1) | Goal ↦ few-ops table reads h.1 ]
+
+few-goals : (table : Table) (reads : List Defined) → AllByRecursion (IsFew table) reads → AllByRecursion (λ (g : file.Goal). HasFewTerms g.results) (map (goal table) (goal_entries reads))
+few-goals table [] h = tt
+few-goals table (read ∷ reads) h =
+    elim read.subject as (λ s. AllByRecursion (λ (g : file.Goal). HasFewTerms g.results) (map (goal table) (goal_entries (record read { subject = s } ∷ reads))))
+    [ Operation ↦ few-goals table reads h.1 | Goal ↦ (h.0, few-goals table reads h.1) ]
+
+few-reads : (table : Table) (reads : List Defined) → AllByRecursion (λ (o : file.Operation). HasFewTerms o.results) (map (operation table) (op_entries reads)) →
+    AllByRecursion (λ (g : file.Goal). HasFewTerms g.results) (map (goal table) (goal_entries reads)) → AllByRecursion (IsFew table) reads
+few-reads table [] h k = tt
+few-reads table (read ∷ reads) h k =
+    (elim read.subject as (λ s. AllByRecursion (λ (o : file.Operation). HasFewTerms o.results) (map (operation table) (op_entries (record read { subject = s } ∷ reads))) →
+      AllByRecursion (λ (g : file.Goal). HasFewTerms g.results) (map (goal table) (goal_entries (record read { subject = s } ∷ reads))) → IsFew table read × AllByRecursion (IsFew table) reads)
+    [ Operation ↦ λ p q. (p.0, few-reads table reads p.1 q) | Goal ↦ λ p q. (q.0, few-reads table reads p q.1) ]) h k
+
+pub few-file : (pointer : ℕ) (table : Table) (ops : List (List ℕ × OpDef)) (gs : List (List ℕ × GoalDef)) (reads : List Defined) → ops ≡ op_entries reads → gs ≡ goal_entries reads → All (IsFew table) reads →
+    HasFew (record { pointer = pointer; ops = map (operation table) ops; goals = map (goal table) gs })
+few-file pointer table ops gs reads e f h =
+    let by = recursion_from_All (IsFew table) reads h in
+    record {
+      in_ops = λ o c. All-contains (λ (o : file.Operation). HasFewTerms o.results) (map (operation table) ops) o
+      (All-from_recursion (λ (o : file.Operation). HasFewTerms o.results) (map (operation table) ops) (subst (λ es. AllByRecursion (λ (o : file.Operation). HasFewTerms o.results) (map (operation table) es)) (sym e) (few-ops table reads by))) c;
+      in_goals = λ g c. All-contains (λ (g : file.Goal). HasFewTerms g.results) (map (goal table) gs) g
+      (All-from_recursion (λ (g : file.Goal). HasFewTerms g.results) (map (goal table) gs) (subst (λ es. AllByRecursion (λ (g : file.Goal). HasFewTerms g.results) (map (goal table) es)) (sym f) (few-goals table reads by))) c;
+    }
+
+pub reads-few : (pointer : ℕ) (table : Table) (ops : List (List ℕ × OpDef)) (gs : List (List ℕ × GoalDef)) (reads : List Defined) → ops ≡ op_entries reads → gs ≡ goal_entries reads →
+    HasFew (record { pointer = pointer; ops = map (operation table) ops; goals = map (goal table) gs }) → All (IsFew table) reads
+reads-few pointer table ops gs reads e f few =
+    let os = map (operation table) ops in
+    let ks = map (goal table) gs in
+    let by_ops = recursion_from_All (λ (o : file.Operation). HasFewTerms o.results) os (All-weaker (Contains os) (λ (o : file.Operation). HasFewTerms o.results) few.in_ops os (All-contains_itself os)) in
+    let by_goals = recursion_from_All (λ (g : file.Goal). HasFewTerms g.results) ks (All-weaker (Contains ks) (λ (g : file.Goal). HasFewTerms g.results) few.in_goals ks (All-contains_itself ks)) in
+    All-from_recursion (IsFew table) reads
+    (few-reads table reads (subst (λ es. AllByRecursion (λ (o : file.Operation). HasFewTerms o.results) (map (operation table) es)) e by_ops)
+    (subst (λ es. AllByRecursion (λ (g : file.Goal). HasFewTerms g.results) (map (goal table) es)) f by_goals))

@@ -1,5 +1,5 @@
 -- What a definition that is read stands for.
-use Rattle.std.specs.Prelude.{◌≡◌, ℕ, ◌<◌, ◌≤◌, List, [], ◌∷◌, ◌++◌, length, Option, Some, map, true, All}
+use Rattle.std.specs.Prelude.{◌≡◌, ℕ, ◌<◌, ◌≤◌, List, [], ◌∷◌, ◌++◌, length, Option, Some, map, true, All, Contains}
 use Rattle.std.specs.String.{string_bytes}
 use Rattle.bv_terms.specs.Table.{Table, term_at}
 use Rattle.isel_spec.specs.declared.defined.Defined.{Defined}
@@ -8,8 +8,9 @@ use Rattle.isel_spec.specs.declared.definitions.OpDef.{OpDef}
 use Rattle.isel_spec.specs.declared.definitions.GoalDef.{GoalDef}
 use Rattle.isel_spec.specs.declared.subject.Subject.{Subject}
 use Rattle.isel_spec.specs.declared.subject.Subject.TheVariants.{Operation, Goal}
-use Rattle.isel_spec.specs.File.{stays_in}
-use Rattle.isel_spec.specs.Form.{Definition, differ}
+use Rattle.isel_spec.specs.File as file
+use Rattle.isel_spec.specs.File.{stays_in, File}
+use Rattle.isel_spec.specs.Form.{Definition, differ, HasFewTerms}
 
 abbrev pub definition_of : Table → Defined → Definition
 definition_of table read =
@@ -29,6 +30,10 @@ pub record IsWithin (table : Table) (read : Defined) : Type 0 where
 pub record AreDefinitions (table : Table) (reads : List Defined) (said : Option (List Definition)) : Type 0 where
   pub are : said ≡ Some (map (definition_of table) reads)
   pub stay : All (λ (read : Defined). stays_in (map (λ b. b.1) read.scope) (term_at table read.result) ≡ true) reads
+
+-- at most 256 different terms stand in its result
+abbrev pub IsFew : Table → Defined → Type 0
+IsFew table read = HasFewTerms (term_at table read.result ∷ [])
 
 -- the operations among the definitions, and the goals
 abbrev pub op_entries : List Defined → List (List ℕ × OpDef)
@@ -57,3 +62,8 @@ pub record AddsEntries {A : Type 0} (old new entries : List (List ℕ × A)) : T
 pub record IsNamed {A : Type 0} (table entries : List (List ℕ × A)) : Type 0 where
   pub is : table ≡ entries
   pub apart : differ (map (λ (e : List ℕ × A). e.0) entries) ≡ true
+
+-- at most 256 different terms stand in the results of each operation and each goal
+pub record HasFew (f : File) : Type 0 where
+  pub in_ops : (o : file.Operation) → Contains f.ops o → HasFewTerms o.results
+  pub in_goals : (g : file.Goal) → Contains f.goals g → HasFewTerms g.results

@@ -2,6 +2,7 @@ ghost use Rattle.std.specs.Prelude.{◌≡◌};
 ghost use Rattle.isel_spec.specs.declared.fault.FirstFault.TheVariants.{NoMemory};
 
 use bv_terms::MakeFault;
+use sexp_read::SexpFault;
 use std::alloc::{AllocError, AllocFailed};
 
 /// Why no file of the small form is read.
@@ -39,6 +40,23 @@ impl From<MakeFault> for FirstFault {
         match fault {
             MakeFault::NoMemory => FirstFault::NoMemory,
             MakeFault::Arity | MakeFault::Sorts { .. } | MakeFault::Index => FirstFault::Outside,
+        }
+    }
+}
+
+impl From<SexpFault> for FirstFault {
+    ghost use Rattle.std.specs.Prelude.{◌≡◌};
+    ghost use Rattle.isel_spec.specs.Fault.{text_fault};
+
+    ghost from_gives = { λ read fault. fault ≡ text_fault read };
+
+    fn from(fault: SexpFault) -> FirstFault {
+        match fault {
+            SexpFault::NoMemory => FirstFault::NoMemory,
+            SexpFault::NotText(_)
+            | SexpFault::Unclosed(_)
+            | SexpFault::Stray(_)
+            | SexpFault::Deep(_) => FirstFault::Outside,
         }
     }
 }

@@ -1,10 +1,12 @@
 //! How many different terms stand in a definition's result.
 
-ghost use Rattle.std.specs.Prelude.{◌≡◌, ◌<◌, ◌↔◌, [], ◌∷◌, length, OnOk, IfOk, IsTrue};
+ghost use Rattle.std.specs.Prelude.{◌≡◌, ◌<◌, ◌↔◌, [], ◌∷◌, length, OnOk, IfOk, IsTrue, All};
 ghost use Rattle.bv_terms.specs.Table.{term_at};
 ghost use Rattle.isel_spec.specs.Form.{HasFewTerms};
 ghost use Rattle.isel_spec.specs.Nodes.{Adds};
+ghost use Rattle.isel_spec.specs.Defined.{IsWithin, IsFew};
 
+use crate::defined::Defined;
 use bv_terms::{TermId, Terms};
 use std::alloc::{AllocError, Global};
 
@@ -40,4 +42,17 @@ pub fn has_few_terms(alloc: Global, terms: &Terms, at: TermId) -> Result<bool, A
         add_new(&mut found, arguments)?;
     }
     Ok(false)
+}
+
+/// Whether at most 256 different terms stand in the result of each definition.
+pub fn all_few(alloc: Global, terms: &Terms, reads: &[Defined]) -> Result<bool, AllocError>
+    requires { All (IsWithin terms.now) reads.now }
+    ensures { IfOk result (λ few. IsTrue few ↔ All (IsFew terms.now) reads.now) }
+{
+    for read in reads {
+        if !has_few_terms(alloc, terms, read.result)? {
+            return Ok(false);
+        }
+    }
+    Ok(true)
 }

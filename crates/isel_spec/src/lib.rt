@@ -8,6 +8,7 @@ mod entries;
 mod fault;
 mod few;
 mod file;
+mod first;
 mod part_lists;
 mod parts;
 mod scope;
@@ -18,4 +19,6 @@ mod term;
 mod words;
 
 pub use definitions::{GoalDef, Kind, OpDef};
+pub use fault::FirstFault;
+pub use first::{one_first_file, read_first};
 pub use spec::Spec;

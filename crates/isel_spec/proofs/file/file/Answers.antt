@@ -24,8 +24,8 @@ definitions-requires-clause-items_in c =
     All-tail (λ (n : ℕ). n < length c.args.forest.now.items) c.in-Some.head.now c.in-Some.items.now
     (All-same (λ (n : ℕ). n < length c.args.forest.now.items) (c.in-Some.head.now ∷ c.in-Some.items.now) c.args.forest.now.outermost (sym top) (top-within c.args.bytes.now c.args.forest.now c.requires))
 
-pub returns-in_err-ops : goal.returns-in_err-ops
-returns-in_err-ops c =
+pub returns-in_err-ops-clause-tells : goal.returns-in_err-ops-clause-tells
+returns-in_err-ops-clause-tells c =
     let p = err_from_is_err_and c.from_residual-in_err-ops.result c.from_residual-in_err-ops.ensures.1 in
     let bytes = c.args.bytes.now in
     let items = c.args.forest.now.items in
@@ -41,8 +41,8 @@ returns-in_err-ops c =
       file-refused bytes items head rest c.in-Some-pointer.pointer table reads read (small-twice table (op_entries reads) (map (goal_in table) (goal_entries reads)) twice) trees
       (subst (λ ns. AllZip (Denotes bytes items) ns trees) top d))
 
-pub returns-in_err-goals : goal.returns-in_err-goals
-returns-in_err-goals c =
+pub returns-in_err-goals-clause-tells : goal.returns-in_err-goals-clause-tells
+returns-in_err-goals-clause-tells c =
     let p = err_from_is_err_and c.from_residual-in_err-goals.result c.from_residual-in_err-goals.ensures.1 in
     let bytes = c.args.bytes.now in
     let items = c.args.forest.now.items in
@@ -58,8 +58,8 @@ returns-in_err-goals c =
       file-refused bytes items head rest c.in-Some-pointer.pointer table reads read (small-goals_twice (map (operation table) (op_entries reads)) table (goal_entries reads) twice) trees
       (subst (λ ns. AllZip (Denotes bytes items) ns trees) top d))
 
-pub returns-then-not-is_small : goal.returns-then-not-is_small
-returns-then-not-is_small c =
+pub returns-then-not-is_small-clause-tells : goal.returns-then-not-is_small-clause-tells
+returns-then-not-is_small-clause-tells c =
     let bytes = c.args.bytes.now in
     let items = c.args.forest.now.items in
     let head = c.in-Some.head.now in
@@ -75,8 +75,8 @@ returns-then-not-is_small c =
         ∙ ap (λ es. is_small (map (operation table) c.in_ok-ops.ops) (map (goal_in table) es)) (sym gs) ∙ sym (c.is_small.ensures table) ∙ c.if-not-is_small.true in
     λ trees d. file-refused bytes items head rest c.in-Some-pointer.pointer table reads read small trees (subst (λ ns. AllZip (Denotes bytes items) ns trees) top d)
 
-pub invariant_of-result : goal.invariant_of-result
-invariant_of-result c =
+pub invariant_of-spec : goal.invariant_of-spec
+invariant_of-spec c =
     let bytes = c.args.bytes.now in
     let items = c.args.forest.now.items in
     let head = c.in-Some.head.now in
@@ -98,8 +98,8 @@ invariant_of-result c =
       ∙ sound-file c.in-Some-pointer.pointer table reads width c.in_ok-reads.ensures.within stay small;
     }
 
-pub returns : goal.returns
-returns c =
+pub returns-clause-tells : goal.returns-clause-tells
+returns-clause-tells c =
     let bytes = c.args.bytes.now in
     let items = c.args.forest.now.items in
     let head = c.in-Some.head.now in
@@ -114,3 +114,9 @@ returns c =
         ap (λ es. is_small (map (operation table) es) (map (goal_in table) (goal_entries reads))) (sym ops)
         ∙ ap (λ es. is_small (map (operation table) c.in_ok-ops.ops) (map (goal_in table) es)) (sym gs) ∙ sym (c.is_small.ensures table) ∙ c.if-not-is_small.false in
     λ trees d. file-accepted bytes items head rest c.in-Some-pointer.pointer table reads read small trees (subst (λ ns. AllZip (Denotes bytes items) ns trees) top d) ∙ rw (ops, gs) refl
+
+pub returns-clause-ops : goal.returns-clause-ops
+returns-clause-ops c = c.in_ok-ops.ensures.is ∙ ap op_entries c.as_slice.ensures.value
+
+pub returns-clause-goals : goal.returns-clause-goals
+returns-clause-goals c = c.in_ok-goals.ensures.is ∙ ap goal_entries c.as_slice-2.ensures.value
