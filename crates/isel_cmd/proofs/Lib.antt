@@ -11,3 +11,7 @@ pub mod RuleLemmas
 pub mod LibraryLemmas
 pub mod SoundLemmas
 pub mod TriedLemmas
+pub mod AnswerLemmas
+pub mod RefusalLemmas
+pub mod FormLemmas
+pub mod SmallLemmas

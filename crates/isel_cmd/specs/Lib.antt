@@ -7,3 +7,4 @@ pub mod Program
 pub mod Enumeration
 pub mod Cases
 pub mod Candidates
+pub mod Refusal

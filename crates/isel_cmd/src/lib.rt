@@ -3,8 +3,13 @@
 
 mod enumeration;
 pub mod outside;
+mod program;
 mod text;
 mod words;
 
 pub use enumeration::search;
+pub use program::run_here;
 pub use words::{Command, parse};
+
+#[cfg(test)]
+mod tests;

@@ -2,13 +2,31 @@ ghost use Rattle.std.specs.Prelude.{◌≡◌, ℕ, List, map, MatchOption, IfSo
 ghost use Rattle.std.specs.String.{string_bytes};
 ghost use Rattle.std.specs.Fmt.{decimal};
 ghost use Rattle.isel_cmd.specs.Words.{IsFileName, IsSynth, HasNoForm};
-ghost use Rattle.isel_cmd.specs.Command.{IsCommand};
+ghost use Rattle.isel_cmd.specs.Command.{IsCommand, file_of, bound_of};
 
 /// What the words ask for.
 #[derive(Clone, Copy, Debug)]
 pub enum Command<'a> {
     /// To write the library of the file of that name, for patterns of at most `bound` operations.
     Synth { file: &'a str, bound: u8 },
+}
+
+impl<'a> Command<'a> {
+    /// The name of the file that the command reads.
+    pub fn file(self) -> &'a str
+        ensures { result.now ≡ file_of self.entry }
+    {
+        let Command::Synth { file, .. } = self;
+        file
+    }
+
+    /// How many operations a pattern may have.
+    pub fn bound(self) -> u8
+        ensures { result ≡ bound_of self.entry }
+    {
+        let Command::Synth { bound, .. } = self;
+        bound
+    }
 }
 
 /// Whether a word may name a file: it is not empty and does not begin with a dash.

@@ -75,10 +75,9 @@ pub defined-some : (subject : Subject) (bytes : List ℕ) (items : List Item) (n
     × (stays_in (map (λ (b : Binding). b.1) scope) (term_at table at) ≡ true)
 defined-some subject bytes items numbers read scope table at is some terms trees d =
     let has = parts-of subject bytes items numbers read trees d is in
-    let made = (terms has.said.result has.stands.result).term in
-    (
+    let made = (terms has.said.result has.stands.result).term in (
       defined-by subject bytes items read trees has ∙ ap (option_and_then (definition_with subject has.said)) some
-      ∙ rw (made, ← has.stands.name, ← has.stands.cost) refl,
+          ∙ rw (made, ← has.stands.name, ← has.stands.cost) refl,
       term-stays scope has.said.result (term_at table at) made,
     )
 
@@ -101,12 +100,12 @@ pub item-none : (bytes : List ℕ) (items : List Item) (number : ℕ) → headed
     (t : Tree) → Denotes bytes items number t → definition_in t ≡ None
 item-none bytes items number e t d =
     let none = agree-none (SameHead bytes items) (headed_in tree_view t)
-        (subst (λ o. Agree (SameHead bytes items) o (headed_in tree_view t)) e (headed_agrees bytes items number t d)) in
+    (subst (λ o. Agree (SameHead bytes items) o (headed_in tree_view t)) e (headed_agrees bytes items number t d)) in
     rw none refl
 
 pub item-some : (bytes : List ℕ) (items : List Item) (number : ℕ) (subject : Subject) (rest : List ℕ) → headed_in (item_view bytes items) number ≡ Some (subject, rest) →
     (t : Tree) → Denotes bytes items number t → (trees : List Tree) × AllZip (Denotes bytes items) rest trees × (definition_in t ≡ defined subject trees)
 item-some bytes items number subject rest e t d =
     let some = agree-some (SameHead bytes items) (subject, rest) (headed_in tree_view t)
-        (subst (λ o. Agree (SameHead bytes items) o (headed_in tree_view t)) e (headed_agrees bytes items number t d)) in
+    (subst (λ o. Agree (SameHead bytes items) o (headed_in tree_view t)) e (headed_agrees bytes items number t d)) in
     (some.0.1, some.1.1, ap (option_and_then (λ (h : Subject × List Tree). defined h.0 h.1)) some.2 ∙ ap (λ s. defined s some.0.1) (sym some.1.0))

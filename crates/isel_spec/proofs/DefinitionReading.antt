@@ -85,21 +85,21 @@ pub definitions_more : (bytes : List ℕ) (items : List Item) (numbers : List �
 definitions_more bytes items numbers i old new reads read h has grown within is = record {
   within = All-push (IsWithin new) reads read (All-weaker (IsWithin old) (IsWithin new) (within-kept old new grown) reads has.within) within;
   so_far = λ trees d.
-    let before = has.so_far trees d in
-    let next = next-at bytes items numbers i before.rest h before.denoted in
-    let said = is next.tree next.denoted in
-    let one : each definition_in before.rest ≡ option_and_then (λ ys. Some (definition_of new read ∷ ys)) (each definition_in next.others) = ap (each definition_in) next.is ∙ rw said.is refl in
-    let old_within = recursion_from_All (IsWithin old) reads has.within in
-    let front : map (definition_of old) reads ++ definition_of new read ∷ [] ≡ map (definition_of new) (reads ++ read ∷ []) =
-        ap (λ ds. ds ++ definition_of new read ∷ []) (sym (definitions-kept old new grown reads old_within)) ∙ sym (map-push (definition_of new) reads read) in
-    record {
-      rest = next.others;
-      denoted = next.later;
-      whole = before.whole ∙ ap (option_map (λ more. map (definition_of old) reads ++ more)) one
-      ∙ front-step (map (definition_of old) reads) (definition_of new read) (each definition_in next.others)
-      ∙ ap (λ ds. option_map (λ (more : List Definition). ds ++ more) (each definition_in next.others)) front;
-      stay = All-push (Stays new) reads read (All-from_recursion (Stays new) reads (stay-kept old new grown reads old_within (recursion_from_All (Stays old) reads before.stay))) said.stays;
-    };
+      let before = has.so_far trees d in
+      let next = next-at bytes items numbers i before.rest h before.denoted in
+      let said = is next.tree next.denoted in
+      let one : each definition_in before.rest ≡ option_and_then (λ ys. Some (definition_of new read ∷ ys)) (each definition_in next.others) = ap (each definition_in) next.is ∙ rw said.is refl in
+      let old_within = recursion_from_All (IsWithin old) reads has.within in
+      let front : map (definition_of old) reads ++ definition_of new read ∷ [] ≡ map (definition_of new) (reads ++ read ∷ []) =
+      ap (λ ds. ds ++ definition_of new read ∷ []) (sym (definitions-kept old new grown reads old_within)) ∙ sym (map-push (definition_of new) reads read) in
+      record {
+        rest = next.others;
+        denoted = next.later;
+        whole = before.whole ∙ ap (option_map (λ more. map (definition_of old) reads ++ more)) one
+            ∙ front-step (map (definition_of old) reads) (definition_of new read) (each definition_in next.others)
+            ∙ ap (λ ds. option_map (λ (more : List Definition). ds ++ more) (each definition_in next.others)) front;
+        stay = All-push (Stays new) reads read (All-from_recursion (Stays new) reads (stay-kept old new grown reads old_within (recursion_from_All (Stays old) reads before.stay))) said.stays;
+      };
 }
 
 pub definitions_stop : (bytes : List ℕ) (items : List Item) (numbers : List ℕ) (i : ℕ) (table : Table) (reads : List Defined) → i < length numbers →

@@ -22,7 +22,7 @@ names-append (x ∷ xs) ys = ap (λ zs. x.0 ∷ zs) (names-append xs ys)
 pub entry-twice : {A : Type 0} (old entries rest : List (List ℕ × A)) (e : List ℕ × A) → entries ≡ e ∷ [] → Contains (names old) e.0 → differ (names ((old ++ entries) ++ rest)) ≡ false
 entry-twice old entries rest e is h =
     let regrouped : names ((old ++ entries) ++ rest) ≡ names old ++ e.0 ∷ names rest =
-        ap (λ es. names ((old ++ es) ++ rest)) is ∙ ap names (append_assoc old (e ∷ []) rest) ∙ names-append old (e ∷ rest) in
+    ap (λ es. names ((old ++ es) ++ rest)) is ∙ ap names (append_assoc old (e ∷ []) rest) ∙ names-append old (e ∷ rest) in
     ap differ regrouped ∙ differ-twice (names old) e.0 (names rest) h
 
 pub entry-added : {A : Type 0} (old new entries : List (List ℕ × A)) (e : List ℕ × A) → entries ≡ e ∷ [] → new ≡ old ++ e ∷ [] → (Contains (names old) e.0 → ⊥) → AddsEntries old new entries

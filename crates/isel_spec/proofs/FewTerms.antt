@@ -51,20 +51,19 @@ closed-all table is at next found has all (suc n) k h c s stands =
     ⊎_elim
     (λ same. subst (Contains (map (term_in (terms_of table)) found)) (node ∙ sym same) (map-contains (term_in (terms_of table)) found k c))
     (λ among.
-      let arg = among-argument (terms_of table) e.0.args s among in
-      let below : arg.0.0 < k = All-contains (λ (a : TermId). a.0 < k) e.0.args arg.0 (is.earlier k e.0 e.1) arg.1 in
-      let there : Contains found arg.0.0 = All-contains (λ (a : TermId). Contains found a.0) e.0.args arg.0 closed arg.1 in
-      closed-all table is at next found has all n arg.0.0 (omega (arith, below, h)) there s arg.2)
+    let arg = among-argument (terms_of table) e.0.args s among in
+    let below : arg.0.0 < k = All-contains (λ (a : TermId). a.0 < k) e.0.args arg.0 (is.earlier k e.0 e.1) arg.1 in
+    let there : Contains found arg.0.0 = All-contains (λ (a : TermId). Contains found a.0) e.0.args arg.0 closed arg.1 in
+    closed-all table is at next found has all n arg.0.0 (omega (arith, below, h)) there s arg.2)
     opened
 
 pub few-yes : (table : Table) → IsTable table → (at next : ℕ) (found : List ℕ) → Found table at next found → next ≡ length found → length found ≤ 256 →
     HasFewTerms (term_in (terms_of table) at ∷ [])
-few-yes table is at next found has all few =
-    (
-      map (term_in (terms_of table)) found,
-      subst (λ n. n ≤ 256) (sym (length-map found (term_in (terms_of table)))) few,
-      λ t s c stands. closed-all table is at next found has all (suc at) at (omega arith) has.first s (subst (StandsIn s) (sym (only_one (term_in (terms_of table) at) t c)) stands),
-    )
+few-yes table is at next found has all few = (
+  map (term_in (terms_of table)) found,
+  subst (λ n. n ≤ 256) (sym (length-map found (term_in (terms_of table)))) few,
+  λ t s c stands. closed-all table is at next found has all (suc at) at (omega arith) has.first s (subst (StandsIn s) (sym (only_one (term_in (terms_of table) at) t c)) stands),
+)
 
 -- ---- different nodes have different terms
 
@@ -89,8 +88,8 @@ one-node table is (suc n) j k h a b e =
     let ops : x.0.op ≡ y.0.op = cc in
     let inner : operands (terms_of table) x.0.args ≡ operands (terms_of table) y.0.args = cc in
     let args = same-args (terms_of table) (λ (t : TermId). t.0 < j) (λ (t : TermId). t.0 < k)
-        (λ s t p q same. ap (λ (m : ℕ). let made : TermId = record { 0 = m } in made) (one-node table is n s.0 t.0 (omega (arith, p, h)) (omega (arith, p, a)) (omega (arith, q, b)) same))
-        x.0.args y.0.args (recursion_from_All (λ (t : TermId). t.0 < j) x.0.args (is.earlier j x.0 x.1)) (recursion_from_All (λ (t : TermId). t.0 < k) y.0.args (is.earlier k y.0 y.1)) inner in
+    (λ s t p q same. ap (λ (m : ℕ). let made : TermId = record { 0 = m } in made) (one-node table is n s.0 t.0 (omega (arith, p, h)) (omega (arith, p, a)) (omega (arith, q, b)) same))
+    x.0.args y.0.args (recursion_from_All (λ (t : TermId). t.0 < j) x.0.args (is.earlier j x.0 x.1)) (recursion_from_All (λ (t : TermId). t.0 < k) y.0.args (is.earlier k y.0 y.1)) inner in
     let made : Op → List TermId → Entry = λ o xs. record { op = o; args = xs } in
     let entry : y.0 ≡ x.0 = ap (λ o. made o y.0.args) (sym ops) ∙ ap (made x.0.op) (sym args) in
     is.distinct j k x.0 x.1 (y.1 ∙ ap Some entry)
@@ -111,17 +110,16 @@ unfolding IsPlace
 other-places table is ts k p h at [] [] apart within zip = tt
 other-places table is ts k p h at [] (q ∷ ps) apart within zip = absurd zip
 other-places table is ts k p h at (j ∷ ks) [] apart within zip = absurd zip
-other-places table is ts k p h at (j ∷ ks) (q ∷ ps) apart within zip =
-    (
-      false_unless (nat_eq p q)
+other-places table is ts k p h at (j ∷ ks) (q ∷ ps) apart within zip = (
+  false_unless (nat_eq p q)
       (λ e.
-        let same : p ≡ q = (Decides-eqb p q).0 e in
-        let terms : term_in (terms_of table) k ≡ term_in (terms_of table) j =
-            sym at.1 ∙ same-element ts p (term_in (terms_of table) k) (term_in (terms_of table) j) at.0 ∙ ap (λ r. get_or ts r (term_in (terms_of table) j)) same ∙ zip.0.1 in
-        let node : k ≡ j = one-node table is (suc k) k j (omega arith) h within.0 terms in
-        false≢true (sym apart.0 ∙ (Decides-eqb k j).1 node)),
-      other-places table is ts k p h at ks ps apart.1 within.1 zip.1,
-    )
+      let same : p ≡ q = (Decides-eqb p q).0 e in
+      let terms : term_in (terms_of table) k ≡ term_in (terms_of table) j =
+      sym at.1 ∙ same-element ts p (term_in (terms_of table) k) (term_in (terms_of table) j) at.0 ∙ ap (λ r. get_or ts r (term_in (terms_of table) j)) same ∙ zip.0.1 in
+      let node : k ≡ j = one-node table is (suc k) k j (omega arith) h within.0 terms in
+      false≢true (sym apart.0 ∙ (Decides-eqb k j).1 node)),
+  other-places table is ts k p h at ks ps apart.1 within.1 zip.1,
+)
 
 places-differ : (table : Table) → IsTable table → (ts : List Term) (ks ps : List ℕ) → IsDistinct nat_eq ks → AllByRecursion (λ j. j < length table.nodes) ks → AllZip (IsPlace table ts) ks ps → IsDistinct nat_eq ps
 unfolding IsDistinct
@@ -147,7 +145,7 @@ pub few-no : (table : Table) → IsTable table → (at next : ℕ) (found : List
 few-no table is at next found has many few =
     let Below : ℕ → Type 0 = λ k. (k < length table.nodes) × StandsIn (term_in (terms_of table) k) (term_in (terms_of table) at) in
     let listed = recursion_from_All (λ (k : ℕ). Contains few.0 (term_in (terms_of table) k)) found
-        (All-weaker Below (λ (k : ℕ). Contains few.0 (term_in (terms_of table) k)) (λ k h. few.2 (term_in (terms_of table) at) (term_in (terms_of table) k) (zero, omega arith, refl) h.1) found has.sound) in
+    (All-weaker Below (λ (k : ℕ). Contains few.0 (term_in (terms_of table) k)) (λ k h. few.2 (term_in (terms_of table) at) (term_in (terms_of table) k) (zero, omega arith, refl) h.1) found has.sound) in
     let within = recursion_from_All (λ (k : ℕ). k < length table.nodes) found (All-weaker Below (λ (k : ℕ). k < length table.nodes) (λ k h. h.0) found has.sound) in
     let ps = places-of table few.0 found listed in
     let long = length_all_zip (IsPlace table few.0) found ps.0 ps.1 in

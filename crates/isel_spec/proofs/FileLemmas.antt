@@ -69,11 +69,12 @@ args_are (b ∷ scope) = ap (λ ss. b.1 ∷ ss) (args_are scope)
 pub goals_are : (table : Table) (reads : List Defined) → goals (map (definition_of table) reads) ≡ map (goal table) (goal_entries reads)
 goals_are table [] = refl
 goals_are table (read ∷ reads) =
-    elim read.subject as (λ s. goals (definition_of table (record read { subject = s }) ∷ map (definition_of table) reads) ≡ map (goal table) (goal_entries (record read { subject = s } ∷ reads)))
-    [ Operation ↦ goals_are table reads
-    | Goal ↦ ap (λ gs. file-goal table read (map (λ (s : Sort). kind.Reg) (map (λ (b : Binding). b.1) read.scope)) (map (λ (b : Binding). b.1) read.scope) ∷ gs) (goals_are table reads)
-        ∙ ap (λ ks. file-goal table read ks (map (λ (b : Binding). b.1) read.scope) ∷ map (goal table) (goal_entries reads)) (kinds_are read.scope)
-        ∙ ap (λ ss. file-goal table read (map (λ (a : Kind × Sort). a.0) (map (λ (b : Binding). (kind.Reg, b.1)) read.scope)) ss ∷ map (goal table) (goal_entries reads)) (args_are read.scope) ]
+    elim read.subject as (λ s. goals (definition_of table (record read { subject = s }) ∷ map (definition_of table) reads) ≡ map (goal table) (goal_entries (record read { subject = s } ∷ reads))) [
+      | Operation ↦ goals_are table reads
+      | Goal ↦ ap (λ gs. file-goal table read (map (λ (s : Sort). kind.Reg) (map (λ (b : Binding). b.1) read.scope)) (map (λ (b : Binding). b.1) read.scope) ∷ gs) (goals_are table reads)
+          ∙ ap (λ ks. file-goal table read ks (map (λ (b : Binding). b.1) read.scope) ∷ map (goal table) (goal_entries reads)) (kinds_are read.scope)
+          ∙ ap (λ ss. file-goal table read (map (λ (a : Kind × Sort). a.0) (map (λ (b : Binding). (kind.Reg, b.1)) read.scope)) ss ∷ map (goal table) (goal_entries reads)) (args_are read.scope)
+    ]
   where
     file-goal : Table → Defined → List Kind → List Sort → file.Goal
     file-goal table read ks ss = record { name = string_bytes read.name; kinds = ks; args = ss; cost = read.cost; results = term_at table read.result ∷ [] }
@@ -280,7 +281,7 @@ few-reads : (table : Table) (reads : List Defined) → AllByRecursion (λ (o : f
 few-reads table [] h k = tt
 few-reads table (read ∷ reads) h k =
     (elim read.subject as (λ s. AllByRecursion (λ (o : file.Operation). HasFewTerms o.results) (map (operation table) (op_entries (record read { subject = s } ∷ reads))) →
-      AllByRecursion (λ (g : file.Goal). HasFewTerms g.results) (map (goal table) (goal_entries (record read { subject = s } ∷ reads))) → IsFew table read × AllByRecursion (IsFew table) reads)
+    AllByRecursion (λ (g : file.Goal). HasFewTerms g.results) (map (goal table) (goal_entries (record read { subject = s } ∷ reads))) → IsFew table read × AllByRecursion (IsFew table) reads)
     [ Operation ↦ λ p q. (p.0, few-reads table reads p.1 q) | Goal ↦ λ p q. (q.0, few-reads table reads p q.1) ]) h k
 
 pub few-file : (pointer : ℕ) (table : Table) (ops : List (List ℕ × OpDef)) (gs : List (List ℕ × GoalDef)) (reads : List Defined) → ops ≡ op_entries reads → gs ≡ goal_entries reads → All (IsFew table) reads →
@@ -289,9 +290,9 @@ few-file pointer table ops gs reads e f h =
     let by = recursion_from_All (IsFew table) reads h in
     record {
       in_ops = λ o c. All-contains (λ (o : file.Operation). HasFewTerms o.results) (map (operation table) ops) o
-      (All-from_recursion (λ (o : file.Operation). HasFewTerms o.results) (map (operation table) ops) (subst (λ es. AllByRecursion (λ (o : file.Operation). HasFewTerms o.results) (map (operation table) es)) (sym e) (few-ops table reads by))) c;
+          (All-from_recursion (λ (o : file.Operation). HasFewTerms o.results) (map (operation table) ops) (subst (λ es. AllByRecursion (λ (o : file.Operation). HasFewTerms o.results) (map (operation table) es)) (sym e) (few-ops table reads by))) c;
       in_goals = λ g c. All-contains (λ (g : file.Goal). HasFewTerms g.results) (map (goal table) gs) g
-      (All-from_recursion (λ (g : file.Goal). HasFewTerms g.results) (map (goal table) gs) (subst (λ es. AllByRecursion (λ (g : file.Goal). HasFewTerms g.results) (map (goal table) es)) (sym f) (few-goals table reads by))) c;
+          (All-from_recursion (λ (g : file.Goal). HasFewTerms g.results) (map (goal table) gs) (subst (λ es. AllByRecursion (λ (g : file.Goal). HasFewTerms g.results) (map (goal table) es)) (sym f) (few-goals table reads by))) c;
     }
 
 pub reads-few : (pointer : ℕ) (table : Table) (ops : List (List ℕ × OpDef)) (gs : List (List ℕ × GoalDef)) (reads : List Defined) → ops ≡ op_entries reads → gs ≡ goal_entries reads →

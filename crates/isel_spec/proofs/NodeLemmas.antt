@@ -45,11 +45,11 @@ adds-push old cur nodes i node e adds new = record {
   more = adds.more ++ node.0 ∷ [];
   is = ap (λ ns. ns ++ node.0 ∷ []) adds.is ∙ append_assoc old adds.more (node.0 ∷ []);
   all = All-more (λ (n : TermId). Contains (cur ++ node.0 ∷ []) n.0) nodes i node (slice_get_within nodes i node e)
-  (All-weaker (λ (n : TermId). Contains cur n.0) (λ (n : TermId). Contains (cur ++ node.0 ∷ []) n.0) (λ n h. Contains-append_left cur (node.0 ∷ []) n.0 h) (take i nodes) adds.all)
-  (subst (λ (n : TermId). Contains (cur ++ node.0 ∷ []) n.0) (sym (get_or_from_slice_get nodes i node node e)) (Contains-push cur node.0));
+      (All-weaker (λ (n : TermId). Contains cur n.0) (λ (n : TermId). Contains (cur ++ node.0 ∷ []) n.0) (λ n h. Contains-append_left cur (node.0 ∷ []) n.0 h) (take i nodes) adds.all)
+      (subst (λ (n : TermId). Contains (cur ++ node.0 ∷ []) n.0) (sym (get_or_from_slice_get nodes i node node e)) (Contains-push cur node.0));
   only = All-push (λ (n : ℕ). Contains (numbers (take (i + 1) nodes)) n) adds.more node.0
-  (All-weaker (λ (n : ℕ). Contains (numbers (take i nodes)) n) (λ (n : ℕ). Contains (numbers (take (i + 1) nodes)) n) (wider nodes i node e) adds.more adds.only)
-  (subst (λ ns. Contains ns node.0) (sym (map-take-more (λ (x : TermId). x.0) nodes i node e)) (Contains-push (numbers (take i nodes)) node.0));
+      (All-weaker (λ (n : ℕ). Contains (numbers (take i nodes)) n) (λ (n : ℕ). Contains (numbers (take (i + 1) nodes)) n) (wider nodes i node e) adds.more adds.only)
+      (subst (λ ns. Contains ns node.0) (sym (map-take-more (λ (x : TermId). x.0) nodes i node e)) (Contains-push (numbers (take i nodes)) node.0));
   distinct = λ d. IsDistinct-push nat_eq_equiv cur node.0 (adds.distinct d) new;
 }
 
@@ -73,6 +73,7 @@ stands-itself (Apply o ts) = inl refl
 
 mutual
   unfolding StandsIn StandsAmong
+
   stands-through : (r s t : Term) → StandsIn r s → StandsIn s t → StandsIn r t
   stands-through r s (Apply o ts) a b = ⊎_elim (λ same. subst (StandsIn r) same a) (λ among. inr (stands-among r s ts a among)) b
 
@@ -135,8 +136,7 @@ operand-stands : (table : Table) → IsTable table → (k : ℕ) (e : Entry) →
 unfolding StandsIn
 operand-stands table is k e h n c =
     let arg = number-of e.args n c in
-    let below : arg.0.0 < k = All-contains (λ (a : TermId). a.0 < k) e.args arg.0 (is.earlier k e h) arg.1 in
-    (
+    let below : arg.0.0 < k = All-contains (λ (a : TermId). a.0 < k) e.args arg.0 (is.earlier k e h) arg.1 in (
       subst (λ m. m < k) arg.2 below,
       subst (StandsIn (term_in (terms_of table) n)) (sym (node-term table is k e h)) (inr (argument-among (terms_of table) e.args n c)),
     )
@@ -147,23 +147,23 @@ found-more table is at next found new e h node has adds = record {
   room = subst (λ ns. next + 1 ≤ length ns) (sym adds.is) (rw (length-append found adds.more) (omega arith));
   first = subst (λ ns. Contains ns at) (sym adds.is) (Contains-append_left found adds.more at has.first);
   sound = subst (All Below) (sym adds.is) (All-append Below found adds.more has.sound
-  (All-weaker (λ (n : ℕ). Contains (numbers e.args) n) Below
-  (λ n c. let stands = operand-stands table is (get_or found next 0) e node n c in
-    let here = All-get_or Below found next 0 h has.sound in
-    (omega (arith, stands.0, here.0), stands-through (term_in (terms_of table) n) (term_in (terms_of table) (get_or found next 0)) (term_in (terms_of table) at) stands.1 here.1))
-  adds.more adds.only));
+      (All-weaker (λ (n : ℕ). Contains (numbers e.args) n) Below
+      (λ n c. let stands = operand-stands table is (get_or found next 0) e node n c in
+      let here = All-get_or Below found next 0 h has.sound in
+      (omega (arith, stands.0, here.0), stands-through (term_in (terms_of table) n) (term_in (terms_of table) (get_or found next 0)) (term_in (terms_of table) at) stands.1 here.1))
+      adds.more adds.only));
   distinct = adds.distinct has.distinct;
   closed = λ j f below is_node. ⊎_elim
-  (λ earlier.
-    let same : get_or new j 0 ≡ get_or found j 0 = ap (λ ns. get_or ns j 0) adds.is ∙ get_or-append found adds.more 0 j (omega arith) in
-    All-weaker (λ (a : TermId). Contains found a.0) (λ (a : TermId). Contains new a.0)
-    (λ a c. subst (λ ns. Contains ns a.0) (sym adds.is) (Contains-append_left found adds.more a.0 c)) f.args
-    (has.closed j f earlier (ap (slice_get table.nodes) (sym same) ∙ is_node)))
-  (λ last.
-    let same : get_or new j 0 ≡ get_or found next 0 = ap (λ i. get_or new i 0) last ∙ ap (λ ns. get_or ns next 0) adds.is ∙ get_or-append found adds.more 0 next h in
-    let entry : e ≡ f = same_Some e f (sym node ∙ ap (slice_get table.nodes) (sym same) ∙ is_node) in
-    subst (λ (g : Entry). All (λ (a : TermId). Contains new a.0) g.args) entry adds.all)
-  (below_or next j below);
+      (λ earlier.
+      let same : get_or new j 0 ≡ get_or found j 0 = ap (λ ns. get_or ns j 0) adds.is ∙ get_or-append found adds.more 0 j (omega arith) in
+      All-weaker (λ (a : TermId). Contains found a.0) (λ (a : TermId). Contains new a.0)
+      (λ a c. subst (λ ns. Contains ns a.0) (sym adds.is) (Contains-append_left found adds.more a.0 c)) f.args
+      (has.closed j f earlier (ap (slice_get table.nodes) (sym same) ∙ is_node)))
+      (λ last.
+      let same : get_or new j 0 ≡ get_or found next 0 = ap (λ i. get_or new i 0) last ∙ ap (λ ns. get_or ns next 0) adds.is ∙ get_or-append found adds.more 0 next h in
+      let entry : e ≡ f = same_Some e f (sym node ∙ ap (slice_get table.nodes) (sym same) ∙ is_node) in
+      subst (λ (g : Entry). All (λ (a : TermId). Contains new a.0) g.args) entry adds.all)
+      (below_or next j below);
 }
   where
     Below : ℕ → Type 0

@@ -84,19 +84,19 @@ pub operands_more : (scope : List Binding) (bytes : List ℕ) (items : List Item
 operands_more scope bytes items arguments i old new args at h has grown within read = record {
   within = All-push (λ (a : TermId). a.0 < length new.nodes) args at (All-weaker (λ (a : TermId). a.0 < length old.nodes) (λ (a : TermId). a.0 < length new.nodes) (λ a below. omega (arith, grown.longer)) args has.within) within;
   so_far = λ ts d.
-    let before = has.so_far ts d in
-    let next = next-at bytes items arguments i before.rest h before.denoted in
-    let term_is = (read next.first next.denoted).term in
-    let pushed : operands (terms_of new) (args ++ at ∷ []) ≡ join (operands (terms_of old) args) (term.Then (term_at new at) term.End) =
-        operands-push (terms_of new) args at ∙ ap (λ os. join os (term.Then (term_at new at) term.End)) (operands-kept old new grown args has.within) in
-    let one : operands_of scope before.rest ≡ option_and_then (λ rest. Some (term.Then (term_at new at) rest)) (operands_of scope next.others) =
-        ap (operands_of scope) next.is ∙ rw term_is refl in
-    record {
-      rest = next.others;
-      denoted = next.later;
-      whole = before.whole ∙ ap (option_map (join (operands (terms_of old) args))) one ∙ step-join (operands (terms_of old) args) (term_at new at) (operands_of scope next.others)
-      ∙ ap (λ os. option_map (join os) (operands_of scope next.others)) (sym pushed);
-    };
+      let before = has.so_far ts d in
+      let next = next-at bytes items arguments i before.rest h before.denoted in
+      let term_is = (read next.first next.denoted).term in
+      let pushed : operands (terms_of new) (args ++ at ∷ []) ≡ join (operands (terms_of old) args) (term.Then (term_at new at) term.End) =
+      operands-push (terms_of new) args at ∙ ap (λ os. join os (term.Then (term_at new at) term.End)) (operands-kept old new grown args has.within) in
+      let one : operands_of scope before.rest ≡ option_and_then (λ rest. Some (term.Then (term_at new at) rest)) (operands_of scope next.others) =
+      ap (operands_of scope) next.is ∙ rw term_is refl in
+      record {
+        rest = next.others;
+        denoted = next.later;
+        whole = before.whole ∙ ap (option_map (join (operands (terms_of old) args))) one ∙ step-join (operands (terms_of old) args) (term_at new at) (operands_of scope next.others)
+            ∙ ap (λ os. option_map (join os) (operands_of scope next.others)) (sym pushed);
+      };
 }
 
 pub operands_stop : (scope : List Binding) (bytes : List ℕ) (items : List Item) (arguments : List ℕ) (i : ℕ) (table : Table) (args : List TermId) → i < length arguments →

@@ -81,8 +81,8 @@ differ-twice [] name more h = absurd (omega (arith, h.1))
 differ-twice (n ∷ names) name more h =
     ⊎_elim
     (λ first.
-      let here : Contains (names ++ name ∷ more) n = Contains-append_right names (name ∷ more) n (zero, omega arith, sym (only_one n name first)) in
-      or_true (list_any (bytes_eq n) (names ++ name ∷ more)) (differ (names ++ name ∷ more)) (any_name n (names ++ name ∷ more) here))
+    let here : Contains (names ++ name ∷ more) n = Contains-append_right names (name ∷ more) n (zero, omega arith, sym (only_one n name first)) in
+    or_true (list_any (bytes_eq n) (names ++ name ∷ more)) (differ (names ++ name ∷ more)) (any_name n (names ++ name ∷ more) here))
     (λ later. and_false (not (list_any (bytes_eq n) (names ++ name ∷ more))) (differ (names ++ name ∷ more)) (differ-twice names name more later))
     (Contains-append_cases (n ∷ []) names name h)
 
@@ -97,7 +97,7 @@ pub scope-twice : (done : List Binding) (b : Binding) (o : Option (List Binding)
 scope-twice done b None h = refl
 scope-twice done b (Some more) h =
     let names : map (λ (c : Binding). c.0) ((done ++ b ∷ []) ++ more) ≡ map (λ (c : Binding). c.0) done ++ b.0 ∷ map (λ (c : Binding). c.0) more =
-        ap (map (λ (c : Binding). c.0)) (append_assoc done (b ∷ []) more) ∙ names-append done (b ∷ more) in
+    ap (map (λ (c : Binding). c.0)) (append_assoc done (b ∷ []) more) ∙ names-append done (b ∷ more) in
     let twice = ap differ names ∙ differ-twice (map (λ (c : Binding). c.0) done) b.0 (map (λ (c : Binding). c.0) more) h in
     rw (and_false (nat_le (length ((done ++ b ∷ []) ++ more)) 4) (differ (map (λ (c : Binding). c.0) ((done ++ b ∷ []) ++ more))) twice) refl
 
@@ -106,7 +106,7 @@ pub scope-long : (done : List Binding) (b : Binding) (o : Option (List Binding))
 scope-long done b None h = refl
 scope-long done b (Some more) h =
     let long : nat_le (length ((done ++ b ∷ []) ++ more)) 4 ≡ false =
-        let n = length-append (done ++ b ∷ []) more in let m = length-append done (b ∷ []) in grind (arith, nat_tests) in
+    let n = length-append (done ++ b ∷ []) more in let m = length-append done (b ∷ []) in grind (arith, nat_tests) in
     rw long refl
 
 pub apart-more : (done : List Binding) (b : Binding) → differ (map (λ (c : Binding). c.0) done) ≡ true → (Contains (map (λ (c : Binding). c.0) done) b.0 → ⊥) →

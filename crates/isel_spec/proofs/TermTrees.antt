@@ -58,9 +58,12 @@ term_of-members : (scope : List Binding) (bytes : List ℕ) (items : List Item) 
     × (atom_at bytes items head ≡ None → term_of scope (Branch from to members) ≡ None)
     × ((word : List ℕ) → atom_at bytes items head ≡ Some word → term_of scope (Branch from to members) ≡ applied scope word ts)
 term_of-members scope bytes items head arguments End from to d = absurd d
-term_of-members scope bytes items head arguments (Then (Word first w) ts) from to d =
-    (ts, d.1, (λ e. absurd (none-some w (sym e ∙ words_agree bytes items head (Word first w) d.0))),
-    (λ word e. ap (λ v. applied scope v ts) (same_Some w word (sym (words_agree bytes items head (Word first w) d.0) ∙ e))))
+term_of-members scope bytes items head arguments (Then (Word first w) ts) from to d = (
+  ts,
+  d.1,
+  (λ e. absurd (none-some w (sym e ∙ words_agree bytes items head (Word first w) d.0))),
+  (λ word e. ap (λ v. applied scope v ts) (same_Some w word (sym (words_agree bytes items head (Word first w) d.0) ∙ e))),
+)
 term_of-members scope bytes items head arguments (Then (Branch f u ms) ts) from to d =
     (ts, d.1, (λ e. refl), (λ word e. absurd (none-some word (sym (words_agree bytes items head (Branch f u ms) d.0) ∙ e))))
 

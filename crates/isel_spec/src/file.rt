@@ -23,11 +23,7 @@ use sexp_read::Forest;
 use std::alloc::Global;
 
 /// The file that a forest is, but for the limit on different terms.
-fn file(
-    alloc: Global,
-    bytes: &[u8],
-    forest: &Forest,
-) -> Result<(Spec, Vec<Defined>), FirstFault>
+fn file(alloc: Global, bytes: &[u8], forest: &Forest) -> Result<(Spec, Vec<Defined>), FirstFault>
     requires { IsReading bytes.now forest.now }
     ensures within { IfOk result (λ read. All (IsWithin read.0.terms) read.1.items) }
     ensures ops { IfOk result (λ read. read.0.ops ≡ op_entries read.1.items) }

@@ -64,5 +64,4 @@ pub fn read_first(alloc: Global, bytes: &[u8]) -> Result<Spec, FirstFault>
 /// Bytes are at most one file of the small form.
 pub fn one_first_file()
     ensures { (bytes : List ℕ) (one other : File) → IsFirstFile bytes one → IsFirstFile bytes other → one ≡ other }
-{
-}
+{}

@@ -22,3 +22,6 @@ pub use definitions::{GoalDef, Kind, OpDef};
 pub use fault::FirstFault;
 pub use first::{one_first_file, read_first};
 pub use spec::Spec;
+
+#[cfg(test)]
+mod tests;

@@ -25,6 +25,9 @@ impl MemFiles {
     /// bytes. The reads whose numbers, counted from 0, stand in `failing` fail.
     pub fn new(files: Vec<(String, Vec<u8>)>, step: usize, failing: Vec<u64>) -> MemFiles
         requires { 1 ≤ step }
+        ensures bytes { (name : List ℕ) → ⟦<MemFiles as Files>⟧.bytes result name
+            ≡ option_map (λ e. e.1.items) (entry_named (λ e. string_bytes e.0) files.items name) }
+        ensures faults { (name : List ℕ) → ⟦<MemFiles as Files>⟧.faults result name ≡ 0 }
     {
         MemFiles {
             files,
@@ -98,6 +101,8 @@ impl MemSink {
     /// stand in `failing` fail, and so does a put that finds no memory.
     pub fn new(alloc: Global, step: usize, failing: Vec<u64>) -> MemSink
         requires { 1 ≤ step }
+        ensures written { ⟦<MemSink as Sink>⟧.written result ≡ Some [] }
+        ensures faults { ⟦<MemSink as Sink>⟧.faults result ≡ 0 }
     {
         MemSink {
             bytes: Vec::new(alloc),

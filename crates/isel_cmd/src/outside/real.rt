@@ -6,6 +6,7 @@ use std::{fs, io};
 
 /// The files of the system, through a runtime. Each read opens the file anew. What the files hold is
 /// not told: that the system gives a file's bytes is trusted.
+#[derive(Drop)]
 pub struct RealFiles<'a, R> {
     rt: &'a R,
     faults: u64,
@@ -44,6 +45,7 @@ impl<R: std::rt::Files> Files for RealFiles<'_, R> {
 }
 
 /// A stream of the system. What it holds is not told: that the system keeps the bytes is trusted.
+#[derive(Drop)]
 pub struct RealOut<W> {
     to: W,
     faults: u64,

@@ -10,7 +10,7 @@ loop-item-init c =
     record {
       grown = extends-same c.args.terms.now;
       read = subst (HasDefinitions c.args.bytes.now c.args.forest.now.items c.args.items.now 0 c.args.terms.now) (sym c.new-reads.ensures.items)
-      (definitions_none c.args.bytes.now c.args.forest.now.items c.args.items.now c.args.terms.now);
+          (definitions_none c.args.bytes.now c.args.forest.now.items c.args.items.now c.args.terms.now);
     }
 
 pub returns-in_err-read-clause-tells : goal.returns-in_err-read-clause-tells
@@ -24,8 +24,8 @@ loop-item-preserved c =
     record {
       grown = extends-trans _ _ _ c.loop-item.invariant.grown c.in_ok-read.ensures.extends;
       read = subst (HasDefinitions c.args.bytes.now c.args.forest.now.items c.args.items.now _ c.item_definition.new.terms) (sym c.in_ok-push.ensures.items)
-      (definitions_more c.args.bytes.now c.args.forest.now.items c.args.items.now c.loop-item.item-index c.loop-item.terms c.item_definition.new.terms c.loop-item.reads.items c.in_ok-read.read
-      (omega arith) c.loop-item.invariant.read c.in_ok-read.ensures.extends c.in_ok-read.ensures.within c.in_ok-read.ensures.tells);
+          (definitions_more c.args.bytes.now c.args.forest.now.items c.args.items.now c.loop-item.item-index c.loop-item.terms c.item_definition.new.terms c.loop-item.reads.items c.in_ok-read.read
+          (omega arith) c.loop-item.invariant.read c.in_ok-read.ensures.extends c.in_ok-read.ensures.within c.in_ok-read.ensures.tells);
     }
 
 pub returns-clause-tells : goal.returns-clause-tells

@@ -12,6 +12,6 @@ returns-then-contains c =
 pub returns : goal.returns
 returns c =
     let grown : c.insert.new.self ≡ c.args.goals.now ++ goal_entry c.args.read.now ∷ [] =
-        c.in_ok-insert.ensures.ok ∙ rw (c.in_ok-from_str.ensures.ok, c.as_str-2.ensures.value, c.in_ok-registers.ensures, c.in_ok-only.ensures) refl in
+    c.in_ok-insert.ensures.ok ∙ rw (c.in_ok-from_str.ensures.ok, c.as_str-2.ensures.value, c.in_ok-registers.ensures, c.in_ok-only.ensures) refl in
     entry-added c.args.goals.now c.insert.new.self _ (goal_entry c.args.read.now) (goal_entries-one c.args.read.now c.in_default.not-Operation) grown
     (λ has. false≢true (sym c.if-contains.false ∙ c.contains.ensures.1 (subst (Contains (map (λ e. e.0) c.args.goals.now)) (sym c.as_str.ensures.value) has)))

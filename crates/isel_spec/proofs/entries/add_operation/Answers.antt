@@ -12,6 +12,6 @@ returns-then-contains c =
 pub returns : goal.returns
 returns c =
     let grown : c.insert.new.self ≡ c.args.ops.now ++ op_entry c.args.read.now ∷ [] =
-        c.in_ok-insert.ensures.ok ∙ rw (c.in_ok-from_str.ensures.ok, c.as_str-2.ensures.value, c.in_ok-sorts.ensures, c.new.ensures, c.in_ok-only.ensures) refl in
+    c.in_ok-insert.ensures.ok ∙ rw (c.in_ok-from_str.ensures.ok, c.as_str-2.ensures.value, c.in_ok-sorts.ensures, c.new.ensures, c.in_ok-only.ensures) refl in
     entry-added c.args.ops.now c.insert.new.self _ (op_entry c.args.read.now) (op_entries-one c.args.read.now c.in_default.not-Goal) grown
     (λ has. false≢true (sym c.if-contains.false ∙ c.contains.ensures.1 (subst (Contains (map (λ e. e.0) c.args.ops.now)) (sym c.as_str.ensures.value) has)))

@@ -12,7 +12,7 @@ returns-in_err-add_operation c =
     let step = op_entries-step c.args.reads.now c.loop-read.read-index c.read-item.result c.loop-read-test.true c.read-item.is in
     let rest = op_entries (drop (c.loop-read.read-index + 1) c.args.reads.now) in
     let whole : op_entries c.args.reads.now ≡ (c.loop-read.ops ++ op_entries (c.read-item.result ∷ [])) ++ rest =
-        c.loop-read.invariant.so_far ∙ ap (λ es. c.loop-read.ops ++ es) step ∙ sym (append_assoc c.loop-read.ops (op_entries (c.read-item.result ∷ [])) rest) in
+    c.loop-read.invariant.so_far ∙ ap (λ es. c.loop-read.ops ++ es) step ∙ sym (append_assoc c.loop-read.ops (op_entries (c.read-item.result ∷ [])) rest) in
     tells-err c.in_err-add_operation.field-0.0 c.from_residual.result _ _ _ _ (p.1 ∙ ap Err p.2) c.in_err-add_operation.ensures
     (λ refused. ap (λ es. differ (names es)) whole ∙ refused rest)
 
@@ -22,6 +22,6 @@ loop-read-preserved c =
     let rest = op_entries (drop (c.loop-read.read-index + 1) c.args.reads.now) in
     record {
       so_far = c.loop-read.invariant.so_far ∙ ap (λ es. c.loop-read.ops ++ es) step ∙ sym (append_assoc c.loop-read.ops (op_entries (c.read-item.result ∷ [])) rest)
-      ∙ ap (λ es. es ++ rest) (sym c.in_ok-add_operation.ensures.is);
+          ∙ ap (λ es. es ++ rest) (sym c.in_ok-add_operation.ensures.is);
       apart = c.in_ok-add_operation.ensures.apart c.loop-read.invariant.apart;
     }

@@ -7,10 +7,11 @@ use Rattle.isel_spec.specs.Defined.{IsFew}
 use Rattle.isel_spec.proofs.few.all_few.Goals as goal
 
 pub returns-then-not-branch : goal.returns-then-not-branch
-returns-then-not-branch c =
-    (λ e. absurd (false≢true e),
-    λ all. absurd (false≢true (sym c.if-not-branch.true ∙ c.in_ok-has_few_terms.ensures.1
-    (subst (IsFew c.args.terms.now) (sym c.read-item.is) (All-get_or (IsFew c.args.terms.now) c.args.reads.now c.loop-read.read-index c.read-item.result c.loop-read-test.true all)))))
+returns-then-not-branch c = (
+  λ e. absurd (false≢true e),
+  λ all. absurd (false≢true (sym c.if-not-branch.true ∙ c.in_ok-has_few_terms.ensures.1
+      (subst (IsFew c.args.terms.now) (sym c.read-item.is) (All-get_or (IsFew c.args.terms.now) c.args.reads.now c.loop-read.read-index c.read-item.result c.loop-read-test.true all)))),
+)
 
 pub loop-read-preserved : goal.loop-read-preserved
 loop-read-preserved c =

@@ -37,9 +37,9 @@ returns-in_err-ops-clause-tells c =
     let read : HasRead bytes items head rest c.in-Some-pointer.pointer table reads = record { pointer_is = sym c.in-Some-pointer.ensures.value; are = c.in_ok-reads.ensures.tells } in
     tells-err c.in_err-ops.field-0.0 c.from_residual-in_err-ops.result _ _ _ _ (p.1 ∙ ap Err p.2) c.in_err-ops.ensures
     (λ refused trees d.
-      let twice : differ (names (op_entries reads)) ≡ false = ap (λ rs. differ (names (op_entries rs))) (sym c.as_slice.ensures.value) ∙ refused in
-      file-refused bytes items head rest c.in-Some-pointer.pointer table reads read (small-twice table (op_entries reads) (map (goal_in table) (goal_entries reads)) twice) trees
-      (subst (λ ns. AllZip (Denotes bytes items) ns trees) top d))
+    let twice : differ (names (op_entries reads)) ≡ false = ap (λ rs. differ (names (op_entries rs))) (sym c.as_slice.ensures.value) ∙ refused in
+    file-refused bytes items head rest c.in-Some-pointer.pointer table reads read (small-twice table (op_entries reads) (map (goal_in table) (goal_entries reads)) twice) trees
+    (subst (λ ns. AllZip (Denotes bytes items) ns trees) top d))
 
 pub returns-in_err-goals-clause-tells : goal.returns-in_err-goals-clause-tells
 returns-in_err-goals-clause-tells c =
@@ -54,9 +54,9 @@ returns-in_err-goals-clause-tells c =
     let read : HasRead bytes items head rest c.in-Some-pointer.pointer table reads = record { pointer_is = sym c.in-Some-pointer.ensures.value; are = c.in_ok-reads.ensures.tells } in
     tells-err c.in_err-goals.field-0.0 c.from_residual-in_err-goals.result _ _ _ _ (p.1 ∙ ap Err p.2) c.in_err-goals.ensures
     (λ refused trees d.
-      let twice : differ (names (goal_entries reads)) ≡ false = ap (λ rs. differ (names (goal_entries rs))) (sym c.as_slice-2.ensures.value) ∙ refused in
-      file-refused bytes items head rest c.in-Some-pointer.pointer table reads read (small-goals_twice (map (operation table) (op_entries reads)) table (goal_entries reads) twice) trees
-      (subst (λ ns. AllZip (Denotes bytes items) ns trees) top d))
+    let twice : differ (names (goal_entries reads)) ≡ false = ap (λ rs. differ (names (goal_entries rs))) (sym c.as_slice-2.ensures.value) ∙ refused in
+    file-refused bytes items head rest c.in-Some-pointer.pointer table reads read (small-goals_twice (map (operation table) (op_entries reads)) table (goal_entries reads) twice) trees
+    (subst (λ ns. AllZip (Denotes bytes items) ns trees) top d))
 
 pub returns-then-not-is_small-clause-tells : goal.returns-then-not-is_small-clause-tells
 returns-then-not-is_small-clause-tells c =
@@ -71,8 +71,8 @@ returns-then-not-is_small-clause-tells c =
     let ops : c.in_ok-ops.ops ≡ op_entries reads = c.in_ok-ops.ensures.is ∙ ap op_entries c.as_slice.ensures.value in
     let gs : c.in_ok-goals.goals ≡ goal_entries reads = c.in_ok-goals.ensures.is ∙ ap goal_entries c.as_slice-2.ensures.value in
     let small : is_small (map (operation table) (op_entries reads)) (map (goal_in table) (goal_entries reads)) ≡ false =
-        ap (λ es. is_small (map (operation table) es) (map (goal_in table) (goal_entries reads))) (sym ops)
-        ∙ ap (λ es. is_small (map (operation table) c.in_ok-ops.ops) (map (goal_in table) es)) (sym gs) ∙ sym (c.is_small.ensures table) ∙ c.if-not-is_small.true in
+    ap (λ es. is_small (map (operation table) es) (map (goal_in table) (goal_entries reads))) (sym ops)
+    ∙ ap (λ es. is_small (map (operation table) c.in_ok-ops.ops) (map (goal_in table) es)) (sym gs) ∙ sym (c.is_small.ensures table) ∙ c.if-not-is_small.true in
     λ trees d. file-refused bytes items head rest c.in-Some-pointer.pointer table reads read small trees (subst (λ ns. AllZip (Denotes bytes items) ns trees) top d)
 
 pub invariant_of-spec : goal.invariant_of-spec
@@ -87,15 +87,15 @@ invariant_of-spec c =
     let ops : c.in_ok-ops.ops ≡ op_entries reads = c.in_ok-ops.ensures.is ∙ ap op_entries c.as_slice.ensures.value in
     let gs : c.in_ok-goals.goals ≡ goal_entries reads = c.in_ok-goals.ensures.is ∙ ap goal_entries c.as_slice-2.ensures.value in
     let small : is_small (map (operation table) (op_entries reads)) (map (goal_in table) (goal_entries reads)) ≡ true =
-        ap (λ es. is_small (map (operation table) es) (map (goal_in table) (goal_entries reads))) (sym ops)
-        ∙ ap (λ es. is_small (map (operation table) c.in_ok-ops.ops) (map (goal_in table) es)) (sym gs) ∙ sym (c.is_small.ensures table) ∙ c.if-not-is_small.false in
+    ap (λ es. is_small (map (operation table) es) (map (goal_in table) (goal_entries reads))) (sym ops)
+    ∙ ap (λ es. is_small (map (operation table) c.in_ok-ops.ops) (map (goal_in table) es)) (sym gs) ∙ sym (c.is_small.ensures table) ∙ c.if-not-is_small.false in
     let whole = top-trees bytes c.args.forest.now c.requires in
     let parts = file-parts bytes items head rest whole.0 (subst (λ ns. AllZip (Denotes bytes items) ns whole.0) top whole.1) in
     let stay = (c.in_ok-reads.ensures.tells parts.0 parts.1).stay in
     let width : table.pointer ≡ c.in-Some-pointer.pointer = c.in_ok-reads.ensures.extends.pointer ∙ ap (λ t. t.pointer) c.new-terms.ensures in
     record {
       sound = ap (λ es. is_sound c.in-Some-pointer.pointer table es c.in_ok-goals.goals) ops ∙ ap (is_sound c.in-Some-pointer.pointer table (op_entries reads)) gs
-      ∙ sound-file c.in-Some-pointer.pointer table reads width c.in_ok-reads.ensures.within stay small;
+          ∙ sound-file c.in-Some-pointer.pointer table reads width c.in_ok-reads.ensures.within stay small;
     }
 
 pub returns-clause-tells : goal.returns-clause-tells
@@ -111,8 +111,8 @@ returns-clause-tells c =
     let ops : c.in_ok-ops.ops ≡ op_entries reads = c.in_ok-ops.ensures.is ∙ ap op_entries c.as_slice.ensures.value in
     let gs : c.in_ok-goals.goals ≡ goal_entries reads = c.in_ok-goals.ensures.is ∙ ap goal_entries c.as_slice-2.ensures.value in
     let small : is_small (map (operation table) (op_entries reads)) (map (goal_in table) (goal_entries reads)) ≡ true =
-        ap (λ es. is_small (map (operation table) es) (map (goal_in table) (goal_entries reads))) (sym ops)
-        ∙ ap (λ es. is_small (map (operation table) c.in_ok-ops.ops) (map (goal_in table) es)) (sym gs) ∙ sym (c.is_small.ensures table) ∙ c.if-not-is_small.false in
+    ap (λ es. is_small (map (operation table) es) (map (goal_in table) (goal_entries reads))) (sym ops)
+    ∙ ap (λ es. is_small (map (operation table) c.in_ok-ops.ops) (map (goal_in table) es)) (sym gs) ∙ sym (c.is_small.ensures table) ∙ c.if-not-is_small.false in
     λ trees d. file-accepted bytes items head rest c.in-Some-pointer.pointer table reads read small trees (subst (λ ns. AllZip (Denotes bytes items) ns trees) top d) ∙ rw (ops, gs) refl
 
 pub returns-clause-ops : goal.returns-clause-ops

@@ -10,7 +10,7 @@ loop-argument-init t c =
     record {
       grown = extends-same c.args.terms.now;
       read = subst (HasOperands c.args.scope.now c.args.bytes.now c.args.forest.now.items c.in-Some-application.arguments.now 0 c.args.terms.now) (sym c.new-args.ensures.items)
-      (operands_none c.args.scope.now c.args.bytes.now c.args.forest.now.items c.in-Some-application.arguments.now c.args.terms.now);
+          (operands_none c.args.scope.now c.args.bytes.now c.args.forest.now.items c.in-Some-application.arguments.now c.args.terms.now);
     }
 
 pub returns-in_err-read-clause-tells : goal.returns-in_err-read-clause-tells
@@ -25,13 +25,13 @@ loop-argument-preserved t c =
     record {
       grown = extends-trans _ _ _ c.loop-argument.invariant.grown c.in_ok-read.ensures.extends;
       read = subst (HasOperands c.args.scope.now c.args.bytes.now c.args.forest.now.items c.in-Some-application.arguments.now _ c.term.new.terms) (sym c.in_ok-push.ensures.items)
-      (operands_more c.args.scope.now c.args.bytes.now c.args.forest.now.items c.in-Some-application.arguments.now c.loop-argument.argument-index c.loop-argument.terms c.term.new.terms c.loop-argument.args.items c.in_ok-read.read
-      (omega arith) c.loop-argument.invariant.read c.in_ok-read.ensures.extends c.in_ok-read.ensures.within c.in_ok-read.ensures.tells);
+          (operands_more c.args.scope.now c.args.bytes.now c.args.forest.now.items c.in-Some-application.arguments.now c.loop-argument.argument-index c.loop-argument.terms c.term.new.terms c.loop-argument.args.items c.in_ok-read.read
+          (omega arith) c.loop-argument.invariant.read c.in_ok-read.ensures.extends c.in_ok-read.ensures.within c.in_ok-read.ensures.tells);
     }
 
 pub returns-clause-tells : goal.returns-clause-tells
 returns-clause-tells t c =
     let whole = term-whole c.args.scope.now c.args.bytes.now c.args.forest.now.items c.args.item c.in-Some-application.op c.in-Some-application.arguments.now c.loop-argument.argument-index c.loop-argument.terms c.loop-argument.args.items c.deref.result.now
-        (sym c.in-Some-application.ensures.value) (omega arith) c.loop-argument.invariant.read c.deref.ensures.value in
+    (sym c.in-Some-application.ensures.value) (omega arith) c.loop-argument.invariant.read c.deref.ensures.value in
     tells-map c.make.result _ _ _ _ c.make.ensures.tells
     (λ at made t' d. record { within = made.within; term = whole t' d ∙ made.term }) (λ none t' d. whole t' d ∙ none)

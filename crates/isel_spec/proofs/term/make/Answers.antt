@@ -13,5 +13,5 @@ returns-in-Err c =
     record {
       extends = subst (Extends c.args.terms.now) (sym c.in-Err.ensures.err) (extends-same c.args.terms.now);
       tells = rw c.from.ensures (refused-tells _ _ c.in-Err.fault
-      (λ other. let refused = refused-other _ c.in-Err.fault other c.in-Err.ensures.refused in refused-none c.args.terms.now c.args.op c.args.args.now refused.0 refused.1));
+          (λ other. let refused = refused-other _ c.in-Err.fault other c.in-Err.ensures.refused in refused-none c.args.terms.now c.args.op c.args.args.now refused.0 refused.1));
     }

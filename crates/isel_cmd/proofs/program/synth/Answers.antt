@@ -1,0 +1,22 @@
+use Rattle.std.proofs.Common.{◌≡◌, ℕ, List, ap, Err, inl, inr, refl, subst}
+use Rattle.std.specs.String.{string_bytes}
+use Rattle.isel_cmd.specs.Outside.{HasPrefix}
+use Rattle.isel_cmd.specs.declared.program.Refusal.TheVariants.{Outside}
+use Rattle.isel_cmd.proofs.RefusalLemmas.{refused_three}
+use Rattle.isel_cmd.proofs.program.synth.Goals as goal
+
+pub returns-in-Ok-clause-cut : goal.returns-in-Ok-clause-cut
+returns-in-Ok-clause-cut g c = λ bytes told five.
+    let P : List ℕ → Type 0 = λ t. HasPrefix (g.S.Sink.written c.args.out.now) t (g.S.Sink.written c.deliver.new.out) in
+    inr (string_bytes c.in-Ok.text, c.in-Ok.ensures.text bytes told, subst P c.as_str.ensures.value (c.deliver.ensures.cut five))
+
+pub returns-in-Err-clause-refused : goal.returns-in-Err-clause-refused
+returns-in-Err-clause-refused g c = λ bytes told three.
+    let same : c.in-Err.refusal ≡ Outside = refused_three c.in-Err.refusal c.refuse.result three c.refuse.ensures.status in
+    c.in-Err.ensures.outside bytes told (ap (λ r. Err r) same)
+
+pub returns-in-Ok-clause-cut_line : goal.returns-in-Ok-clause-cut_line
+returns-in-Ok-clause-cut_line g c = λ five. inl refl
+
+pub returns-in-Err-clause-cut_line : goal.returns-in-Err-clause-cut_line
+returns-in-Err-clause-cut_line g c = λ five. inr (c.refuse.ensures.cut five)
