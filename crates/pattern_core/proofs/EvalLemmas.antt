@@ -1,10 +1,10 @@
 -- The values of a pattern's sources have their sorts.
-use Rattle.std.proofs.Common.{◌≡◌, ℕ, zero, suc, ◌+◌, ◌^◌, ◌<◌, ◌≤◌, true, false, cond, ◌⊎◌, inl, inr, List, [], ◌∷◌, ◌++◌, length, map, drop, get_or, min, Option, Some, None, refl, sym, ap, ◌∙◌, subst, arith, slice_get, All, append_assoc}
+use Rattle.std.proofs.Common.{◌≡◌, ℕ, zero, suc, ◌+◌, ◌^◌, ◌<◌, ◌≤◌, true, false, cond, inl, inr, List, [], ◌∷◌, ◌++◌, length, map, drop, get_or, min, Option, Some, None, refl, sym, ap, ◌∙◌, subst, arith, slice_get, append_assoc}
 use Rattle.std.specs.Prelude.{nat_lt, unwrap_or, option_map, option_and_then}
 use Rattle.std.proofs.lemmas.Bool.{cases_order}
 use Rattle.std.proofs.lemmas.Bool.Decides.{nat_tests}
-use Rattle.std.proofs.lemmas.List.{append-nil, length-map, length_push, at_drop_more, at_drop_all, drop_more}
-use Rattle.std.proofs.lemmas.Option.{slice_get-map, slice_get-get_or, slice_get_within, get_or_from_slice_get, same_Some}
+use Rattle.std.proofs.lemmas.List.{append-nil, length-map, length_push, at_drop_all, drop_more}
+use Rattle.std.proofs.lemmas.Option.{slice_get-map, slice_get_within, get_or_from_slice_get, same_Some}
 use Rattle.bv_terms.specs.declared.op.TermId.{TermId}
 use Rattle.bv_terms.specs.declared.value.Sort.{Sort}
 use Rattle.bv_terms.specs.declared.value.Sort.TheVariants as sort
@@ -226,7 +226,7 @@ IsGiven-more s g_at nodes inputs outs place n new more h at l item given is grow
       so_far = ap (λ os. outs_from (file s) inputs os (drop (place + 1) nodes)) (grown ∙ ap (λ x. outs ++ x ∷ []) is) ∙ sym step ∙ h.so_far;
       long = ap length grown ∙ length_push outs new ∙ ap (λ m. m + 1) h.long;
       sorted = λ g q. subst (λ os. (x : Src) (t : Sort) → source_sort (file s) g nodes (place + 1) x ≡ Some t → HasSort t (source_value inputs os x)) (sym grown)
-      (one_more (file s) g nodes place inputs outs new n h.long at (h.sorted g q) fresh);
+          (one_more (file s) g nodes place inputs outs new n h.long at (h.sorted g q) fresh);
     }
 
 pub IsGiven-end : (s : Spec) (g_at : ℕ) (nodes : List Node) (inputs : List Value) (outs : List (List Value)) (place : ℕ) → IsGiven s g_at nodes inputs outs place → length nodes ≤ place → outs ≡ outs_from (file s) inputs [] nodes

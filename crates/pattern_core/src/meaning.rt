@@ -100,11 +100,7 @@ fn source_values(
 }
 
 /// Adds numbers as bit-vectors of these widths.
-fn add_attributes(
-    values: &mut Vec<Value>,
-    widths: &[u8],
-    numbers: &[u64],
-) -> Result<(), AllocError>
+fn add_attributes(values: &mut Vec<Value>, widths: &[u8], numbers: &[u64]) -> Result<(), AllocError>
     ensures { OnOk result (values.new.items ≡ values.old.items ++ attr_values widths.now numbers.now) }
 {
     for place in 0..widths.len().min(numbers.len()) {
@@ -127,7 +123,11 @@ fn node_inputs(
     ensures { IfOk result (λ env. env.values ≡ map (source_value inputs.now outs.now) node.now.args ++ attr_values operation.now.attrs node.now.attrs) }
 {
     let mut values = source_values(alloc, inputs, outs, node.args.as_slice())?;
-    add_attributes(&mut values, operation.attrs.as_slice(), node.attrs.as_slice())?;
+    add_attributes(
+        &mut values,
+        operation.attrs.as_slice(),
+        node.attrs.as_slice(),
+    )?;
     Ok(Env {
         values: Listed::from_vec(values),
     })

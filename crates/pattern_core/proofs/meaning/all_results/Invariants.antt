@@ -1,5 +1,3 @@
-use Rattle.std.proofs.Common.{◌≡◌, ◌++◌, length, map, take, drop}
-use Rattle.pattern_core.specs.Pattern.{source_value, attr_values}
 use Rattle.pattern_core.proofs.EvalLemmas.{IsGiven}
 use Rattle.pattern_core.proofs.meaning.all_results.Given as goal
 

@@ -1,15 +1,6 @@
-use Rattle.std.proofs.Common.{◌≡◌, ℕ, ◌<◌, ◌≤◌, ◌∙◌, List, ◌∷◌, [], ◌++◌, length, map, get_or, min, Some, sym, ap, subst, arith, slice_get}
-use Rattle.std.proofs.lemmas.Option.{slice_get-get_or}
-use Rattle.bv_terms.specs.declared.op.TermId.{TermId}
-use Rattle.bv_terms.specs.declared.value.Value.{Value}
-use Rattle.bv_terms.specs.Term.{value}
-use Rattle.bv_terms.specs.Table.{term_at}
+use Rattle.std.proofs.Common.{sym, subst}
 use Rattle.isel_spec.specs.Spec.{file}
-use Rattle.pattern_core.specs.declared.pattern.Node.{Node}
-use Rattle.pattern_core.specs.Pattern.{source_value, attr_values, AreFitting}
-use Rattle.pattern_core.specs.Meaning.{IsNodeGiven}
-use Rattle.pattern_core.proofs.SoundLemmas.{if_ok}
-use Rattle.pattern_core.proofs.EvalLemmas.{attributes-more, attributes-all, IsNodeGiven-from, node_values, CanEval-node, some_goal, IsGiven-start, IsGiven-more, IsGiven-end}
+use Rattle.pattern_core.specs.Pattern.{AreFitting}
 use Rattle.pattern_core.proofs.meaning.eval.Goals as goal
 
 pub all_results-requires-clause-fits : goal.all_results-requires-clause-fits

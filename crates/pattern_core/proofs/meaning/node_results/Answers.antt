@@ -1,15 +1,11 @@
-use Rattle.std.proofs.Common.{◌≡◌, ℕ, ◌<◌, ◌≤◌, ◌∙◌, List, ◌∷◌, [], ◌++◌, length, map, get_or, min, Some, sym, ap, subst, arith, slice_get}
-use Rattle.std.proofs.lemmas.Option.{slice_get-get_or}
+use Rattle.std.proofs.Common.{◌≡◌, ◌∙◌, List, map}
 use Rattle.bv_terms.specs.declared.op.TermId.{TermId}
 use Rattle.bv_terms.specs.declared.value.Value.{Value}
 use Rattle.bv_terms.specs.Term.{value}
 use Rattle.bv_terms.specs.Table.{term_at}
-use Rattle.isel_spec.specs.Spec.{file}
-use Rattle.pattern_core.specs.declared.pattern.Node.{Node}
-use Rattle.pattern_core.specs.Pattern.{source_value, attr_values, AreFitting}
-use Rattle.pattern_core.specs.Meaning.{IsNodeGiven}
+use Rattle.pattern_core.specs.Pattern.{source_value}
 use Rattle.pattern_core.proofs.SoundLemmas.{if_ok}
-use Rattle.pattern_core.proofs.EvalLemmas.{attributes-more, attributes-all, IsNodeGiven-from, node_values, CanEval-node, some_goal, IsGiven-start, IsGiven-more, IsGiven-end}
+use Rattle.pattern_core.proofs.EvalLemmas.{node_values, CanEval-node}
 use Rattle.pattern_core.proofs.meaning.node_results.Goals as goal
 
 pub values_of-requires-clause-there : goal.values_of-requires-clause-there
