@@ -1,5 +1,5 @@
 -- Tests of a pattern's parts: lists compared from the front on, and what names a node.
-use Rattle.std.proofs.Common.{◌≡◌, ℕ, zero, suc, ◌+◌, ◌^◌, ◌<◌, ◌≤◌, Bool, true, false, ◌↔◌, ◌⊎◌, inl, inr, List, [], ◌∷◌, length, map, take, drop, get_or, Option, Some, None, refl, sym, ap, ◌∙◌, subst, arith, add-one, slice_get, All, Contains}
+use Rattle.std.proofs.Common.{◌≡◌, ℕ, zero, suc, ◌+◌, ◌^◌, ◌<◌, ◌≤◌, Bool, true, false, ◌↔◌, inl, inr, List, [], ◌∷◌, length, map, take, get_or, Some, refl, sym, ap, ◌∙◌, subst, arith, slice_get, All, Contains}
 use Rattle.std.specs.Prelude.{option_map, option_and_then}
 use Rattle.std.proofs.lemmas.Bool.{false≢true}
 use Rattle.std.proofs.lemmas.List.{take_all}
@@ -13,10 +13,10 @@ use Rattle.bv_terms.specs.Table.{terms_of, term_in, term_at}
 use Rattle.isel_spec.specs.declared.definitions.OpDef.{OpDef}
 use Rattle.isel_spec.specs.declared.definitions.GoalDef.{GoalDef}
 use Rattle.isel_spec.specs.declared.spec.Spec.{Spec}
-use Rattle.isel_spec.specs.File.{File, Operation, Goal, operation, goal}
+use Rattle.isel_spec.specs.File.{File, Operation, Goal, operation}
 use Rattle.isel_spec.specs.Spec.{file}
 use Rattle.pattern_core.specs.declared.pattern.Src.{Src}
-use Rattle.pattern_core.specs.declared.pattern.Src.TheVariants.{Input, Out}
+use Rattle.pattern_core.specs.declared.pattern.Src.TheVariants.{Out}
 use Rattle.pattern_core.specs.declared.pattern.Node.{Node}
 use Rattle.pattern_core.specs.declared.pattern.Pattern.{Pattern}
 use Rattle.pattern_core.specs.Pattern.{operation_sort, source_sort, Pairwise, IsFitting, IsOf, IsAmong, IsNamed, IsWellFormed, args_of}

@@ -2,3 +2,4 @@ pub mod OrderLemmas
 pub mod WalkLemmas
 pub mod SoundLemmas
 pub mod FitLemmas
+pub mod EvalLemmas

@@ -1,5 +1,5 @@
 -- What a `Spec` keeps: its results stand in the table of terms, with inputs of their definition.
-use Rattle.std.proofs.Common.{◌≡◌, ℕ, zero, suc, ◌<◌, ◌≤◌, Bool, true, false, ◌&&◌, List, [], ◌∷◌, length, map, get_or, Option, Some, None, All, refl, sym, ap, ◌∙◌, subst, arith, slice_get}
+use Rattle.std.proofs.Common.{◌≡◌, ℕ, zero, suc, ◌<◌, Bool, true, false, ◌&&◌, List, [], ◌∷◌, length, map, get_or, Option, Some, None, All, refl, sym, ap, ◌∙◌, subst, slice_get}
 use Rattle.std.specs.Prelude.{nat_lt, nat_le, ◌==◌, option_map, Result, Ok, Err, IfOk}
 use Rattle.std.specs.List.{list_all}
 use Rattle.std.proofs.lemmas.Bool.{and_parts, ltb-true}
@@ -16,7 +16,7 @@ use Rattle.bv_terms.specs.Table.{Table, terms_of, term_in, term_at}
 use Rattle.isel_spec.specs.declared.definitions.OpDef.{OpDef}
 use Rattle.isel_spec.specs.declared.definitions.GoalDef.{GoalDef}
 use Rattle.isel_spec.specs.declared.spec.Spec.{Spec}
-use Rattle.isel_spec.specs.File.{Operation, Goal, operation, goal, scope, stays_in, all_stay_in, are_sound, is_between, is_sound_op, is_sound_goal}
+use Rattle.isel_spec.specs.File.{Goal, operation, goal, scope, stays_in, all_stay_in, are_sound, is_between, is_sound_op, is_sound_goal}
 use Rattle.isel_spec.specs.Spec.{file}
 
 list_all_at : {X : Type 0} (p : X → Bool) (xs : List X) (k : ℕ) (x : X) → list_all p xs ≡ true → slice_get xs k ≡ Some x → p x ≡ true

@@ -2,3 +2,4 @@ pub mod Pattern
 pub mod Walk
 pub mod Order
 pub mod Library
+pub mod Meaning

@@ -8,7 +8,7 @@ mod walk;
 mod well_formed;
 
 pub use comparison::order;
-pub use meaning::eval_goal;
+pub use meaning::{eval, eval_goal};
 pub use pattern::{GoalAnswer, Node, Pattern, Src};
 pub use walk::is_canonical;
 pub use well_formed::is_well_formed;

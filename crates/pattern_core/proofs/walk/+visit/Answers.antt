@@ -1,7 +1,7 @@
-use Rattle.std.proofs.Common.{◌≡◌, ℕ, ◌<◌, ◌≤◌, arith, length, subst, sym, get_or, None}
+use Rattle.std.proofs.Common.{◌≡◌, arith, length, subst, sym, get_or, None}
 use Rattle.pattern_core.specs.declared.pattern.Src.TheVariants.{Input}
 use Rattle.pattern_core.specs.Walk.{walk, below, IsBefore, IsCounted}
-use Rattle.pattern_core.proofs.WalkLemmas.{HasWalked-start, HasWalked-more, HasWalked-fails, HasWalked-end, IsEntered, IsEntered-from, counted-input, counted-seen, counted-fails, counted-out_of_turn, counted-in_turn, depth_of-falls, IsBefore-more}
+use Rattle.pattern_core.proofs.WalkLemmas.{HasWalked-start, HasWalked-more, HasWalked-fails, HasWalked-end, IsEntered-from, counted-input, counted-seen, counted-fails, counted-out_of_turn, counted-in_turn, depth_of-falls, IsBefore-more}
 use Rattle.std.proofs.lemmas.List.Elements.{All-get_or}
 use Rattle.pattern_core.proofs.walk.+visit.Goals as goal
 

@@ -1,6 +1,6 @@
-use Rattle.std.proofs.Common.{◌≡◌, ℕ, ◌<◌, ◌≤◌, arith, length, All}
+use Rattle.std.proofs.Common.{arith, length, All}
 use Rattle.pattern_core.specs.declared.pattern.Src.TheVariants.{Input}
-use Rattle.pattern_core.specs.Walk.{walk, below, IsBefore, IsCounted}
+use Rattle.pattern_core.specs.Walk.{IsBefore}
 use Rattle.pattern_core.proofs.WalkLemmas.{HasWalked-start, HasWalked-more, HasWalked-fails, HasWalked-end, before-results, canonical-fails, canonical-decides}
 use Rattle.pattern_core.proofs.walk.is_canonical.Goals as goal
 

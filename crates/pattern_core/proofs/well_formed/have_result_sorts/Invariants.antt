@@ -1,12 +1,10 @@
-use Rattle.std.proofs.Common.{◌≡◌, ℕ, ◌<◌, ◌^◌, length, map, take, Some, slice_get, All}
-use Rattle.bv_terms.specs.declared.value.Sort.{Sort}
+use Rattle.std.proofs.Common.{◌≡◌, length, map, take, Some, slice_get}
 use Rattle.bv_terms.specs.Sorts.{sort_of}
 use Rattle.bv_terms.specs.declared.op.TermId.{TermId}
 use Rattle.bv_terms.specs.Table.{term_at}
 use Rattle.isel_spec.specs.File.{Goal}
 use Rattle.isel_spec.specs.Spec.{file}
-use Rattle.pattern_core.specs.declared.pattern.Node.{Node}
-use Rattle.pattern_core.specs.Pattern.{source_sort, Pairwise, IsFitting, IsOf, IsAmong, IsNamed}
+use Rattle.pattern_core.specs.Pattern.{source_sort}
 use Rattle.pattern_core.proofs.well_formed.have_result_sorts.Given as goal
 
 abbrev pub invariant-loop-place : goal.invariant-loop-place
