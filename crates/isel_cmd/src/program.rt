@@ -242,6 +242,7 @@ pub fn run_here<F: Files, S: Sink, E: Sink>(
 
     // Nothing is written to `out` before the work is done, and a part of the text where a write fails.
     ensures untouched { result ≢ 0 → result ≢ 5 → S.written out.new ≡ S.written out.old }
+    ensures no_form_untouched { HasNoForm (map string_bytes words.now) → S.written out.new ≡ S.written out.old }
     ensures cut { (name bytes : List ℕ) (bound : ℕ) → IsSynth (map string_bytes words.now) name bound →
         F.bytes files.old name ≡ Some bytes → result ≡ 5 → WritesAtMostPart bytes bound (S.written out.old) (S.written out.new) }
 {
