@@ -1,0 +1,8 @@
+pub mod CountLemmas
+pub mod HeldLemmas
+pub mod ListLemmas
+pub mod RisingLemmas
+pub mod TupleLemmas
+pub mod PlaceLemmas
+pub mod ClaimLemmas
+pub mod NumberLemmas

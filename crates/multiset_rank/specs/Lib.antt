@@ -1,0 +1,5 @@
+pub mod Binomial
+pub mod Multisets
+pub mod Claims
+pub mod Rising
+pub mod Held
