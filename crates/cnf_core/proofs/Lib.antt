@@ -1,0 +1,7 @@
+pub mod Sets
+pub mod Sound
+pub mod Same
+pub mod Chains
+pub mod Over
+pub mod UnitLemmas
+pub mod FewUnits

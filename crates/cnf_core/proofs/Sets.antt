@@ -1,0 +1,184 @@
+-- Clauses as sets: when a literal stands in a clause, and what resolution leaves of it.
+use Rattle.std.proofs.Common.{◌≡◌, ◌==◌, ◌&&◌, ◌||◌, Bool, true, false, not, cond, List, [], ◌∷◌, ◌++◌, refl, sym, ap, ◌∙◌, ◌⊎◌, inl, inr}
+use Rattle.std.specs.Bool.{beq}
+use Rattle.std.specs.Cmp.{booleans_Decides}
+use Rattle.std.proofs.lemmas.Bool.{false≢true, eqb-true, eq-eqb}
+use Rattle.std.proofs.lemmas.List.Folds.{list_any-append}
+use Rattle.cnf_core.specs.declared.clause.Lit.{Lit}
+use Rattle.cnf_core.specs.Clause.{opposite, same_lit, has, IsWithin, AreSame}
+use Rattle.cnf_core.specs.Resolution.{without}
+
+-- ---- tests
+
+pub true-or-false : (b : Bool) → (b ≡ true) ⊎ (b ≡ false)
+true-or-false true = inl refl
+true-or-false false = inr refl
+
+pub and-left : (a b : Bool) → (a && b) ≡ true → a ≡ true
+and-left true b h = refl
+and-left false b h = h
+
+pub and-right : (a b : Bool) → (a && b) ≡ true → b ≡ true
+and-right true b h = h
+and-right false b h = absurd (false≢true h)
+
+pub and-both : (a b : Bool) → a ≡ true → b ≡ true → (a && b) ≡ true
+and-both a b h k = ap (λ x. x && b) h ∙ k
+
+pub or-right : (a b : Bool) → b ≡ true → (a || b) ≡ true
+or-right true b h = refl
+or-right false b h = h
+
+pub or-left : (a b : Bool) → a ≡ true → (a || b) ≡ true
+or-left a b h = ap (λ x. x || b) h
+
+pub or-cases : (a b : Bool) → (a || b) ≡ true → (a ≡ true) ⊎ (b ≡ true)
+or-cases true b h = inl refl
+or-cases false b h = inr h
+
+pub not-not : (b : Bool) → not (not b) ≡ b
+not-not true = refl
+not-not false = refl
+
+pub not-same : (b : Bool) → b ≡ not b → ⊥
+not-same true h = false≢true (sym h)
+not-same false h = false≢true h
+
+-- two tests agree where each is true where the other is
+pub same_test : (a b : Bool) → (a ≡ true → b ≡ true) → (b ≡ true → a ≡ true) → a ≡ b
+same_test true true f g = refl
+same_test true false f g = sym (f refl)
+same_test false true f g = g refl
+same_test false false f g = refl
+
+-- ---- equal literals
+
+pub same_lit-true : (l m : Lit) → same_lit l m ≡ true → l ≡ m
+same_lit-true l m h =
+    let variables = eqb-true l.variable m.variable (and-left (l.variable == m.variable) (beq l.positive m.positive) h) in
+    let signs = (booleans_Decides l.positive m.positive).0 (and-right (l.variable == m.variable) (beq l.positive m.positive) h) in
+    λ i. record { variable = variables i; positive = signs i }
+
+pub same_lit-itself : (l : Lit) → same_lit l l ≡ true
+same_lit-itself l = and-both (l.variable == l.variable) (beq l.positive l.positive) (eq-eqb l.variable l.variable refl) ((booleans_Decides l.positive l.positive).1 refl)
+
+pub same_lit-from : (l m : Lit) → l ≡ m → same_lit l m ≡ true
+same_lit-from l m e = ap (same_lit l) (sym e) ∙ same_lit-itself l
+
+pub same_lit-sym : (l m : Lit) → same_lit l m ≡ same_lit m l
+same_lit-sym l m = same_test (same_lit l m) (same_lit m l) (λ h. same_lit-from m l (sym (same_lit-true l m h))) (λ h. same_lit-from l m (sym (same_lit-true m l h)))
+
+pub different : (l m : Lit) → (l ≡ m → ⊥) → same_lit l m ≡ false
+different l m h = by (true-or-false (same_lit l m))
+  where
+    by : (same_lit l m ≡ true) ⊎ (same_lit l m ≡ false) → same_lit l m ≡ false
+    by (inl e) = absurd (h (same_lit-true l m e))
+    by (inr e) = e
+
+pub opposite-opposite : (l : Lit) → opposite (opposite l) ≡ l
+opposite-opposite l = λ i. record { variable = l.variable; positive = not-not l.positive i }
+
+pub opposite-differs : (l : Lit) → l ≡ opposite l → ⊥
+opposite-differs l e = not-same l.positive (ap (λ (x : Lit). x.positive) e)
+
+pub opposite-same : (l m : Lit) → opposite l ≡ opposite m → l ≡ m
+opposite-same l m e = sym (opposite-opposite l) ∙ ap opposite e ∙ opposite-opposite m
+
+-- two literals of one variable are equal or opposite
+pub same_variable : (l m : Lit) → l.variable ≡ m.variable → (l ≡ m) ⊎ (l ≡ opposite m)
+same_variable l m e = by l.positive m.positive refl refl
+  where
+    by : (p q : Bool) → l.positive ≡ p → m.positive ≡ q → (l ≡ m) ⊎ (l ≡ opposite m)
+    by true true a b = inl (λ i. record { variable = e i; positive = (a ∙ sym b) i })
+    by false false a b = inl (λ i. record { variable = e i; positive = (a ∙ sym b) i })
+    by true false a b = inr (λ i. record { variable = e i; positive = (a ∙ ap not (sym b)) i })
+    by false true a b = inr (λ i. record { variable = e i; positive = (a ∙ ap not (sym b)) i })
+
+-- ---- membership
+
+pub has-append : (c d : List Lit) (l : Lit) → has (c ++ d) l ≡ (has c l || has d l)
+has-append c d l = list_any-append (same_lit l) c d
+
+pub has-left : (c d : List Lit) (l : Lit) → has c l ≡ true → has (c ++ d) l ≡ true
+has-left c d l h = has-append c d l ∙ or-left (has c l) (has d l) h
+
+pub has-right : (c d : List Lit) (l : Lit) → has d l ≡ true → has (c ++ d) l ≡ true
+has-right c d l h = has-append c d l ∙ or-right (has c l) (has d l) h
+
+pub has-cases : (c d : List Lit) (l : Lit) → has (c ++ d) l ≡ true → (has c l ≡ true) ⊎ (has d l ≡ true)
+has-cases c d l h = or-cases (has c l) (has d l) (sym (has-append c d l) ∙ h)
+
+pub has-head : (l : Lit) (c : List Lit) → has (l ∷ c) l ≡ true
+has-head l c = or-left (same_lit l l) (has c l) (same_lit-itself l)
+
+pub has-tail : (m : Lit) (c : List Lit) (l : Lit) → has c l ≡ true → has (m ∷ c) l ≡ true
+has-tail m c l h = or-right (same_lit l m) (has c l) h
+
+pub has-one : (m l : Lit) → has (m ∷ []) l ≡ true → l ≡ m
+has-one m l h = by (or-cases (same_lit l m) false h)
+  where
+    by : (same_lit l m ≡ true) ⊎ (false ≡ true) → l ≡ m
+    by (inl e) = same_lit-true l m e
+    by (inr e) = absurd (false≢true e)
+
+-- a clause without a literal has the other literals
+pub without-keeps : (l : Lit) (c : List Lit) (m : Lit) → same_lit l m ≡ false → has (without l c) m ≡ has c m
+without-keeps l [] m h = refl
+without-keeps l (x ∷ xs) m h = by (true-or-false (same_lit l x)) (without-keeps l xs m h)
+  where
+    by : (same_lit l x ≡ true) ⊎ (same_lit l x ≡ false) → has (without l xs) m ≡ has xs m →
+        has (cond (not (same_lit l x)) (x ∷ without l xs) (without l xs)) m ≡ (same_lit m x || has xs m)
+    by (inl e) ih =
+        let other : same_lit m x ≡ false = ap (same_lit m) (sym (same_lit-true l x e)) ∙ same_lit-sym m l ∙ h in
+        ap (λ b. has (cond (not b) (x ∷ without l xs) (without l xs)) m) e ∙ ih ∙ ap (λ b. b || has xs m) (sym other)
+    by (inr e) ih =
+        ap (λ b. has (cond (not b) (x ∷ without l xs) (without l xs)) m) e ∙ ap (λ b. same_lit m x || b) ih
+
+-- and not that one
+pub without-drops : (l : Lit) (c : List Lit) → has (without l c) l ≡ false
+without-drops l [] = refl
+without-drops l (x ∷ xs) = by (true-or-false (same_lit l x)) (without-drops l xs)
+  where
+    by : (same_lit l x ≡ true) ⊎ (same_lit l x ≡ false) → has (without l xs) l ≡ false →
+        has (cond (not (same_lit l x)) (x ∷ without l xs) (without l xs)) l ≡ false
+    by (inl e) ih = ap (λ b. has (cond (not b) (x ∷ without l xs) (without l xs)) l) e ∙ ih
+    by (inr e) ih =
+        ap (λ b. has (cond (not b) (x ∷ without l xs) (without l xs)) l) e ∙ ap (λ b. b || has (without l xs) l) e ∙ ih
+
+pub has-without : (l : Lit) (c : List Lit) (m : Lit) → has (without l c) m ≡ (not (same_lit l m) && has c m)
+has-without l c m = by (true-or-false (same_lit l m))
+  where
+    by : (same_lit l m ≡ true) ⊎ (same_lit l m ≡ false) → has (without l c) m ≡ (not (same_lit l m) && has c m)
+    by (inl e) = ap (has (without l c)) (sym (same_lit-true l m e)) ∙ without-drops l c ∙ ap (λ b. not b && has c m) (sym e)
+    by (inr e) = without-keeps l c m e ∙ ap (λ b. not b && has c m) (sym e)
+
+-- ---- sets
+
+pub AreSame-itself : (c : List Lit) → AreSame c c
+AreSame-itself c l = refl
+
+pub AreSame-sym : (c d : List Lit) → AreSame c d → AreSame d c
+AreSame-sym c d h l = sym (h l)
+
+pub AreSame-trans : (c d e : List Lit) → AreSame c d → AreSame d e → AreSame c e
+AreSame-trans c d e h k l = h l ∙ k l
+
+pub AreSame-from : (c d : List Lit) → IsWithin c d → IsWithin d c → AreSame c d
+AreSame-from c d h k l = same_test (has c l) (has d l) (h l) (k l)
+
+pub IsWithin-from : (c d : List Lit) → AreSame c d → IsWithin c d
+IsWithin-from c d h l e = sym (h l) ∙ e
+
+pub IsWithin-trans : (c d e : List Lit) → IsWithin c d → IsWithin d e → IsWithin c e
+IsWithin-trans c d e h k l x = k l (h l x)
+
+pub without-same : (l : Lit) (c d : List Lit) → AreSame c d → AreSame (without l c) (without l d)
+without-same l c d h m = has-without l c m ∙ ap (λ b. not (same_lit l m) && b) (h m) ∙ sym (has-without l d m)
+
+pub append-same : (a b c d : List Lit) → AreSame a b → AreSame c d → AreSame (a ++ c) (b ++ d)
+append-same a b c d h k l = has-append a c l ∙ (λ i. h l i || k l i) ∙ sym (has-append b d l)
+
+-- a clause with no literal is the empty one
+pub no_literal : (c : List Lit) → ((l : Lit) → has c l ≡ false) → c ≡ []
+no_literal [] h = refl
+no_literal (x ∷ xs) h = absurd (false≢true (sym (h x) ∙ has-head x xs))

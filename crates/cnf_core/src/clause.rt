@@ -1,0 +1,29 @@
+ghost use Rattle.std.specs.Prelude.{◌≡◌, true};
+ghost use Rattle.cnf_core.specs.Clause.{opposite, lit_true, clause_true, assigned, IsOver};
+
+use lists::Listed;
+
+/// A variable, by its number from 0, or its negation.
+#[derive(Clone, Copy, Debug, PartialEq, Eq)]
+pub struct Lit {
+    pub variable: usize,
+    pub positive: bool,
+}
+
+impl Lit {
+    /// The literal of the same variable with the other sign.
+    pub fn opposite(self) -> Lit
+        ensures { result ≡ opposite self }
+    {
+        Lit {
+            variable: self.variable,
+            positive: !self.positive,
+        }
+    }
+}
+
+/// Literals, one of which is to be true. It is read as a set: order and repeats say nothing.
+#[derive(Debug, Drop)]
+pub struct Clause {
+    pub lits: Listed<Lit>,
+}

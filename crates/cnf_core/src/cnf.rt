@@ -1,0 +1,111 @@
+ghost use Rattle.std.specs.Prelude.{◌≡◌, ◌+◌, ◌<◌, ◌++◌, ◌∷◌, [], ◌^◌, length, OnOk, OnErr};
+ghost use Rattle.cnf_core.specs.Clause.{is_model, lit_true, clause_true, assigned, IsOver};
+ghost use Rattle.cnf_core.specs.Kept.{IsFormula};
+
+use crate::clause::{Clause, Lit};
+use lists::Listed;
+use std::alloc::{AllocError, Global};
+use std::marker::Model;
+
+/// A formula in conjunctive normal form: a number of variables, and clauses over them. Contracts
+/// see it as these two.
+#[derive(Debug, Drop)]
+pub struct Cnf {
+    variables: usize,
+    clauses: Listed<Clause>,
+}
+
+impl Model for Cnf {
+    ghost use Rattle.cnf_core.specs.Kept.{Formula, IsFormula};
+
+    ghost Value = { Formula };
+
+    ghost view = { λ c. record { variables = c.variables; clauses = c.clauses } };
+
+    ghost invariant = { λ c. IsFormula (record { variables = c.variables; clauses = c.clauses }) };
+}
+
+impl Cnf {
+    /// So many variables and no clause.
+    pub fn new(alloc: Global, variables: usize) -> Cnf
+        ensures { result ≡ record { variables = variables; clauses = [] } }
+    {
+        Cnf {
+            variables,
+            clauses: Listed::new(alloc),
+        }
+    }
+
+    /// The number of variables.
+    pub fn variables(&self) -> usize
+        ensures { result ≡ self.now.variables }
+    {
+        self.variables
+    }
+
+    /// The clauses, in the order in which they were pushed.
+    pub fn clauses(&self) -> &[Clause]
+        ensures clauses { result.now ≡ self.now.clauses }
+        ensures formula { IsFormula self.now }
+    {
+        self.clauses.as_slice()
+    }
+
+    /// Adds a variable, and answers its number.
+    pub fn variable(&mut self) -> usize
+        requires { self.old.variables < 2 ^ 40 }
+        ensures number { result ≡ self.old.variables }
+        ensures formula { self.new ≡ record { variables = self.old.variables + 1; clauses = self.old.clauses } }
+    {
+        let number = self.variables;
+        self.variables += 1;
+        number
+    }
+
+    /// Adds a clause at the end. An `Err` is want of memory; it leaves the formula as it was.
+    pub fn push(&mut self, clause: Clause) -> Result<(), AllocError>
+        requires { IsOver self.old.variables clause.lits }
+        ensures ok { OnOk result (self.new ≡ record { variables = self.old.variables; clauses = self.old.clauses ++ clause ∷ [] }) }
+        ensures err { OnErr result (self.new ≡ self.old) }
+    {
+        match self.clauses.push(clause) {
+            Ok(()) => Ok(()),
+            Err(_) => Err(AllocError),
+        }
+    }
+
+    /// Whether an assignment, a value a variable in order, makes every clause true.
+    pub fn value(&self, assignment: &[bool]) -> bool
+        requires { length assignment.now ≡ self.now.variables }
+        ensures { result ≡ is_model (assigned assignment.now) self.now.clauses }
+    {
+        for clause in self.clauses.as_slice() {
+            if !has_true_literal(clause.lits.as_slice(), assignment) {
+                return false;
+            }
+        }
+        true
+    }
+}
+
+/// Whether an assignment makes a literal true.
+fn is_true(lit: Lit, assignment: &[bool]) -> bool
+    requires { lit.variable < length assignment.now }
+    ensures { result ≡ lit_true (assigned assignment.now) lit }
+{
+    let value = assignment[lit.variable];
+    if lit.positive { value } else { !value }
+}
+
+/// Whether an assignment makes some literal of a clause true.
+fn has_true_literal(lits: &[Lit], assignment: &[bool]) -> bool
+    requires { IsOver (length assignment.now) lits.now }
+    ensures { result ≡ clause_true (assigned assignment.now) lits.now }
+{
+    for lit in lits {
+        if is_true(*lit, assignment) {
+            return true;
+        }
+    }
+    false
+}
