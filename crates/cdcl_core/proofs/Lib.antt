@@ -1,0 +1,10 @@
+pub mod Kept
+pub mod Looks
+pub mod LeadsLemmas
+pub mod LearnLemmas
+pub mod MarkLemmas
+pub mod Picks
+pub mod Places
+pub mod Sweeps
+pub mod TrailLemmas
+pub mod SearchLemmas
