@@ -1,4 +1,4 @@
-use Rattle.cross_tests.proofs.tests.gives.Goals as goal
+use Rattle.cross_tests.proofs.patterns.gives.Goals as goal
 
 -- What the check answered is the condition that the call asks for.
 pub eval-requires-clause-well_formed : goal.eval-requires-clause-well_formed
