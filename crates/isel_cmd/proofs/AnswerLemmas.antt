@@ -1,6 +1,6 @@
 -- From a library to an answer.
-use Rattle.std.proofs.Common.{◌≡◌, ℕ, zero, ◌≤◌, List, [], ◌∷◌, length, Option, Some, None, slice_get, ⊎_elim, arith, sym, ap, ◌∙◌, refl, subst}
-use Rattle.std.specs.Prelude.{Contains, All}
+use Rattle.std.proofs.Common.{◌≡◌, ℕ, ◌≤◌, List, [], ◌∷◌, length, Some, None, slice_get, ⊎_elim, arith, sym, ap, ◌∙◌, refl, subst}
+use Rattle.std.specs.Prelude.{All}
 use Rattle.std.proofs.lemmas.List.Elements.{All-contains_itself}
 use Rattle.isel_spec.specs.File.{File, Goal}
 use Rattle.pattern_core.specs.declared.pattern.Pattern.{Pattern}
@@ -8,7 +8,7 @@ use Rattle.pattern_core.specs.declared.pattern.GoalAnswer.{GoalAnswer}
 use Rattle.pattern_core.specs.declared.pattern.GoalAnswer.TheVariants as answer
 use Rattle.isel_cmd.specs.Text.{library_text}
 use Rattle.isel_cmd.specs.Program.{IsLibraryText}
-use Rattle.pattern_core.specs.Library.{AreRules, IsLibrary, IsAnswer, IsRight, IsLeastSize, HasNoRule}
+use Rattle.pattern_core.specs.Library.{AreRules, IsLibrary, IsAnswer, IsRight}
 
 pub nothing_first : (rules : List Pattern) → None ≡ slice_get rules 0 → rules ≡ []
 nothing_first [] h = refl

@@ -1,5 +1,5 @@
 -- Words are of one form at most.
-use Rattle.std.proofs.Common.{◌≡◌, ℕ, zero, suc, ◌+◌, ◌≤◌, List, [], ◌∷◌, sym, ◌∙◌, arith, subst}
+use Rattle.std.proofs.Common.{◌≡◌, ℕ, ◌+◌, ◌≤◌, List, [], ◌∷◌, sym, ◌∙◌, arith, subst}
 use Rattle.std.specs.Fmt.{decimal}
 use Rattle.std.proofs.lemmas.Fmt.{decimal_digit}
 use Rattle.isel_cmd.specs.Words.{IsSynth}
@@ -20,7 +20,7 @@ same_form words name other bound limit is are =
     let bounds : decimal limit ≡ decimal bound = cc in
     (names, same_bound limit bound are.within is.within bounds)
 
-synth_of : (words : List (List ℕ)) (command : Command) → IsCommand words command → IsSynth words (file_of command) (bound_of command)
+pub synth_of : (words : List (List ℕ)) (command : Command) → IsCommand words command → IsSynth words (file_of command) (bound_of command)
 synth_of words (Synth file bound) is = is
 
 -- what holds of the name and the bound that the command has holds of each that the words say

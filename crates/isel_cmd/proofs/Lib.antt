@@ -15,3 +15,4 @@ pub mod AnswerLemmas
 pub mod RefusalLemmas
 pub mod FormLemmas
 pub mod SmallLemmas
+pub mod ExactLemmas

@@ -1,5 +1,5 @@
 -- Which refusal a status tells.
-use Rattle.std.proofs.Common.{◌≡◌, ℕ, ◌⊎◌, ⊎_elim, refl, arith}
+use Rattle.std.proofs.Common.{◌≡◌, ℕ, ◌⊎◌, refl, arith}
 use Rattle.isel_cmd.specs.declared.program.Refusal.{Refusal}
 use Rattle.isel_cmd.specs.declared.program.Refusal.TheVariants.{Outside, ReadFault, NoMemory}
 use Rattle.isel_cmd.specs.Refusal.{refused_status}

@@ -1,6 +1,6 @@
 -- A file of the small form has one goal, which the enumeration takes.
-use Rattle.std.proofs.Common.{◌≡◌, ℕ, zero, suc, ◌≤◌, ◌<◌, Bool, true, false, ◌&&◌, List, [], ◌∷◌, length, map, sum, get_or, Option, Some, None, slice_get, arith, sym, ap, ◌∙◌, refl, subst, option_map, option_and_then, nat_le, codes, if◌then◌else◌}
-use Rattle.std.specs.Prelude.{Contains, All}
+use Rattle.std.proofs.Common.{◌≡◌, ℕ, ◌≤◌, Bool, true, false, ◌&&◌, List, [], ◌∷◌, length, map, sum, Option, Some, None, slice_get, sym, refl, subst, option_map, option_and_then, nat_le, codes, if◌then◌else◌}
+use Rattle.std.specs.Prelude.{Contains}
 use Rattle.std.specs.List.{AllByRecursion}
 use Rattle.std.proofs.lemmas.List.Elements.{All-from_recursion, All-contains}
 use Rattle.std.specs.Str.{bytes_eq}
@@ -12,8 +12,8 @@ use Rattle.isel_spec.specs.declared.subject.Subject.{Subject}
 use Rattle.isel_spec.specs.declared.subject.Subject.TheVariants as subject
 use Rattle.isel_spec.specs.File.{File, Operation, Goal}
 use Rattle.isel_spec.specs.Text.{numeral, is_name, each}
-use Rattle.isel_spec.specs.Form.{IsFirstFile, Definition, View, Parts, Binding, where_true, operations, goals, is_small, file_with, file_in, bits_of, sort_from, sort_in, binding, arg_in, goal_arg_in, binding_in, definition_in, definition_with, scope_of, list_of, tree_view, first_of, two_of, three_of, pointer_in, members_in, word_in, subject_of, parts_in, differ, term_of, headed_in}
-use Rattle.isel_cmd.specs.Enumeration.{IsPlain, HasFewInputs, IsSearchable}
+use Rattle.isel_spec.specs.Form.{IsFirstFile, Definition, Binding, where_true, operations, goals, is_small, bits_of, sort_from, sort_in, binding, arg_in, goal_arg_in, binding_in, definition_in, scope_of, list_of, tree_view, first_of, two_of, three_of, pointer_in, members_in, word_in, parts_in, differ, term_of, headed_in}
+use Rattle.isel_cmd.specs.Enumeration.{IsPlain, HasFewInputs}
 use Rattle.isel_cmd.specs.Program.{HasOneGoal}
 
 -- what a chain of steps that may fail gave, its first step gave

@@ -1,5 +1,5 @@
 -- What a run of the program does, by its status.
-use Rattle.std.specs.Prelude.{◌≡◌, ℕ, ◌<◌, List, [], ◌∷◌, ◌++◌, Option, Some, None, slice_get, unwrap_or, option_map, if◌then◌else◌, ◌==◌, ◌⊎◌, codes}
+use Rattle.std.specs.Prelude.{◌≡◌, ℕ, List, [], ◌∷◌, ◌++◌, Option, option_map, if◌then◌else◌, ◌==◌, ◌⊎◌, codes}
 use Rattle.isel_spec.specs.File.{File, Goal}
 use Rattle.isel_spec.specs.Form.{IsFirstFile}
 use Rattle.pattern_core.specs.declared.pattern.GoalAnswer.{GoalAnswer}

@@ -1,4 +1,4 @@
-ghost use Rattle.std.specs.Prelude.{◌≡◌, ◌≢◌, ◌≤◌, ◌∷◌, [], ℕ, List, Some, IfOk, IsErrOf, map, ◌⊎◌};
+ghost use Rattle.std.specs.Prelude.{◌≡◌, ◌≢◌, ◌≤◌, ◌∷◌, ◌++◌, [], ℕ, List, Some, IfOk, IsErrOf, map, ◌⊎◌, ◌↔◌};
 ghost use Rattle.isel_spec.specs.File.{Goal};
 ghost use Rattle.isel_spec.specs.Spec.{file};
 ghost use Rattle.isel_spec.specs.Form.{IsFirstFile};
@@ -187,6 +187,11 @@ fn synth<F: Files, S: Sink, E: Sink>(
     ensures cut { (bytes : List ℕ) → F.bytes files.old name.now ≡ Some bytes → result ≡ 5 →
         WritesAtMostPart bytes bound (S.written out.old) (S.written out.new) }
     ensures cut_line { result ≡ 5 → (E.written notes.new ≡ E.written notes.old) ⊎ CutsNote name.now (E.written notes.old) (E.written notes.new) }
+    ensures one_fails { result ≡ 5 → ((S.written out.new ≡ S.written out.old) × Rose (E.faults notes.old) (E.faults notes.new)) ⊎
+        ((E.written notes.new ≡ E.written notes.old) × Rose (S.faults out.old) (S.faults out.new)) }
+    ensures out_left { result ≢ 0 → result ≢ 5 → out.new ≡ out.old }
+    ensures notes_left { result ≡ 0 → notes.new ≡ notes.old }
+    ensures one_left { result ≡ 5 → (out.new ≡ out.old) ⊎ (notes.new ≡ notes.old) }
 {
     match library(alloc, files, name, bound) {
         Ok(text) => deliver(out, text.as_str()),
@@ -218,6 +223,10 @@ pub fn run_here<F: Files, S: Sink, E: Sink>(
     ensures no_form_only { HasNoForm (map string_bytes words.now) → (result ≡ 2) ⊎ (result ≡ 5) }
     ensures form { (name : List ℕ) (bound : ℕ) → IsSynth (map string_bytes words.now) name bound → IsCommandStatus result }
 
+    // It comes exactly where they have none and the line was written, where `notes` tells its bytes.
+    ensures no_form_exact { (before : List ℕ) → E.written notes.old ≡ Some before →
+        ((result ≡ 2) ↔ (HasNoForm (map string_bytes words.now) × (E.written notes.new ≡ Some (before ++ note_of 2 [])))) }
+
     // Status 3 comes exactly where the bytes are no file of the form, unless a read or a write failed or
     // memory ran out.
     ensures refused { (name bytes : List ℕ) (bound : ℕ) → IsSynth (map string_bytes words.now) name bound →
@@ -225,10 +234,19 @@ pub fn run_here<F: Files, S: Sink, E: Sink>(
     ensures refused_only { (name bytes : List ℕ) (bound : ℕ) → IsSynth (map string_bytes words.now) name bound →
         F.bytes files.old name ≡ Some bytes → IsNoFile bytes → result ≢ 0 }
 
+    // It comes exactly where they are none and the line was written, where `notes` tells its bytes.
+    ensures refused_exact { (name bytes before : List ℕ) (bound : ℕ) → IsSynth (map string_bytes words.now) name bound →
+        F.bytes files.old name ≡ Some bytes → E.written notes.old ≡ Some before →
+        ((result ≡ 3) ↔ (IsNoFile bytes × (E.written notes.new ≡ Some (before ++ note_of 3 name)))) }
+
     // A fault of reading or writing comes only where the count of its object rose in this call.
     ensures read_fault { (name : List ℕ) (bound : ℕ) → IsSynth (map string_bytes words.now) name bound →
         result ≡ 4 → Rose (F.faults files.old name) (F.faults files.new name) }
     ensures write_fault { result ≡ 5 → Rose (S.faults out.old) (S.faults out.new) ⊎ Rose (E.faults notes.old) (E.faults notes.new) }
+
+    // Where `out` failed nothing is written to `notes`; where `notes` failed nothing is written to `out`.
+    ensures one_fails { result ≡ 5 → ((S.written out.new ≡ S.written out.old) × Rose (E.faults notes.old) (E.faults notes.new)) ⊎
+        ((E.written notes.new ≡ E.written notes.old) × Rose (S.faults out.old) (S.faults out.new)) }
 
     // What is written to `notes`: nothing with status 0, else the line of the status; with status 5 a
     // part of a line, or nothing.
@@ -245,6 +263,12 @@ pub fn run_here<F: Files, S: Sink, E: Sink>(
     ensures no_form_untouched { HasNoForm (map string_bytes words.now) → S.written out.new ≡ S.written out.old }
     ensures cut { (name bytes : List ℕ) (bound : ℕ) → IsSynth (map string_bytes words.now) name bound →
         F.bytes files.old name ≡ Some bytes → result ≡ 5 → WritesAtMostPart bytes bound (S.written out.old) (S.written out.new) }
+
+    // What is not to be used is left as it was, also where it tells nothing.
+    ensures out_left { result ≢ 0 → result ≢ 5 → out.new ≡ out.old }
+    ensures notes_left { result ≡ 0 → notes.new ≡ notes.old }
+    ensures one_left { result ≡ 5 → (out.new ≡ out.old) ⊎ (notes.new ≡ notes.old) }
+    ensures no_form_left { HasNoForm (map string_bytes words.now) → (files.new ≡ files.old) × (out.new ≡ out.old) }
 {
     match parse(words) {
         None => tell(notes, b"words: no such form\n", 2),

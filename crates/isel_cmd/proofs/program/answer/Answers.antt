@@ -1,4 +1,4 @@
-use Rattle.std.proofs.Common.{◌≡◌, ℕ, List, arith, subst, ◌∙◌, sym, ap}
+use Rattle.std.proofs.Common.{List, arith, subst, ◌∙◌, sym}
 use Rattle.isel_spec.specs.Spec.{file}
 use Rattle.pattern_core.specs.declared.pattern.Pattern.{Pattern}
 use Rattle.pattern_core.specs.Library.{IsLibrary}

@@ -1,4 +1,4 @@
-use Rattle.std.proofs.Common.{◌≡◌, ℕ, List, arith, subst, ◌∙◌, sym, ap, Err}
+use Rattle.std.proofs.Common.{ℕ, List, subst, ◌∙◌, sym, ap, Err}
 use Rattle.isel_spec.specs.Form.{IsFirstFile}
 use Rattle.isel_cmd.proofs.SmallLemmas.{has_one_goal}
 use Rattle.isel_cmd.proofs.program.spec_of.Goals as goal
