@@ -4,7 +4,7 @@ ghost use Rattle.bv_terms.specs.Table.{term_at};
 
 use crate::value::mask;
 use crate::*;
-use lists::Listed;
+use collections::Seq;
 use std::test::Fail;
 
 /// Makes a node where its arguments are in the table.
@@ -192,7 +192,7 @@ fn eval_follows_the_standard(rt: HostRuntime) -> Result<(), Fail> {
         assert_eq!(rt; again, made);
         let values = vec![in rt.alloc(); Value::Bits { width, number: s }]?;
         let env = Env {
-            values: Listed::from_vec(values),
+            values: Seq::from_vec(values),
         };
         let mut room = [Value::Bool(false); 3];
         let at = TermId(2);

@@ -1,6 +1,6 @@
 ghost use Rattle.std.specs.Prelude.{◌≡◌, ◌-◌, ◌^◌, ◌≤◌, min};
 
-use lists::Listed;
+use collections::Seq;
 
 /// The kind of a value: a truth value, a bit-vector of so many bits, or a memory.
 #[derive(Clone, Copy, Debug, PartialEq, Eq, Hash)]
@@ -20,7 +20,7 @@ pub enum Value {
 /// The values of a term's inputs: input `k` has the value in place `k`.
 #[derive(Debug, Drop)]
 pub struct Env {
-    pub values: Listed<Value>,
+    pub values: Seq<Value>,
 }
 
 /// The ones in the places of a bit-vector's bits; for widths of 64 and more, all ones.

@@ -13,7 +13,7 @@ ghost use Rattle.cdcl_core.specs.Trail.{AreApart, IsConflict, AreSettled};
 ghost use Rattle.cdcl_core.specs.Learning.{HaveReasons, IsMarked, AreUnmarked, IsLastMarked, Leads, IsCollected, IsKept, IsLearnt, has_variable};
 
 use cnf_core::{Chain, Clause, Lit};
-use lists::Listed;
+use collections::Seq;
 use std::alloc::{AllocError, Global};
 
 /// What a conflict teaches.
@@ -169,11 +169,11 @@ pub(crate) fn learn(
     let place = first_point(&mut steps, &mut marks, clauses, lits, reasons, start)?;
     let keep = kept(lits, &marks, start);
     let clause = Clause {
-        lits: Listed::from_vec(collect(alloc, lits, &marks, place, start)?),
+        lits: Seq::from_vec(collect(alloc, lits, &marks, place, start)?),
     };
     let chain = Chain {
         first: conflict,
-        steps: Listed::from_vec(steps),
+        steps: Seq::from_vec(steps),
     };
     let lit = lits[place].opposite();
     Ok(Learnt {
@@ -242,6 +242,6 @@ pub(crate) fn refute(
     resolve_all(&mut steps, &mut marks, clauses, lits, reasons)?;
     Ok(Chain {
         first: conflict,
-        steps: Listed::from_vec(steps),
+        steps: Seq::from_vec(steps),
     })
 }

@@ -16,14 +16,14 @@ use crate::decision::Scores;
 use crate::propagation::propagate;
 use crate::trail::Trail;
 use cnf_core::{Clause, Cnf, Fuel, Lit, Log};
-use lists::Listed;
+use collections::Seq;
 use std::alloc::{AllocError, Global};
 
 /// What a solver found.
 #[derive(Debug, Drop)]
 pub enum Answer {
     /// A value for each variable, which make every clause true.
-    Model(Listed<bool>),
+    Model(Seq<bool>),
     /// An accepted log: there is no model.
     Refuted(Log),
     /// The fuel was spent on the chains of this log.
@@ -62,7 +62,7 @@ fn copied(alloc: Global, clauses: &[Clause]) -> Result<Vec<Clause>, AllocError>
     for clause in clauses {
         let lits = Vec::from_slice(alloc, clause.lits.as_slice())?;
         copies.push(Clause {
-            lits: Listed::from_vec(lits),
+            lits: Seq::from_vec(lits),
         })?;
     }
     Ok(copies)
@@ -180,7 +180,7 @@ impl Search {
         let trail = Trail::new(alloc, variables)?;
         let scores = Scores::new(alloc, variables)?;
         let log = Log {
-            chains: Listed::new(alloc),
+            chains: Seq::new(alloc),
         };
         Ok(Search {
             clauses,
@@ -270,7 +270,7 @@ pub fn solve(alloc: Global, cnf: &Cnf, fuel: &mut Fuel) -> Result<Answer, AllocE
 {
     if has_empty(cnf.clauses()) {
         return Ok(Answer::Refuted(Log {
-            chains: Listed::new(alloc),
+            chains: Seq::new(alloc),
         }));
     }
     let mut search = Search::new(alloc, cnf)?;
@@ -283,7 +283,7 @@ pub fn solve(alloc: Global, cnf: &Cnf, fuel: &mut Fuel) -> Result<Answer, AllocE
         )?;
         let Some(conflict) = found else {
             let values = values_of(alloc, &search.trail)?;
-            return Ok(Answer::Model(Listed::from_vec(values)));
+            return Ok(Answer::Model(Seq::from_vec(values)));
         };
         if fuel.left() == 0 {
             return Ok(Answer::Spent(search.log));

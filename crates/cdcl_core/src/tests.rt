@@ -3,7 +3,7 @@ ghost use Rattle.cnf_core.specs.Clause.{IsOver};
 
 use crate::{Answer, solve};
 use cnf_core::{Clause, Cnf, Fuel, Lit};
-use lists::Listed;
+use collections::Seq;
 use std::alloc::{AllocError, Global};
 use std::test::Fail;
 
@@ -42,7 +42,7 @@ fn lit(variables: usize, number: i32) -> Result<Lit, Fail>
 fn clause(alloc: Global, variables: usize, row: &[i32]) -> Result<Clause, Fail>
     ensures { IfOk result (λ c. IsOver variables c.lits) }
 {
-    let mut lits = Listed::new(alloc);
+    let mut lits = Seq::new(alloc);
     for number in row {
         lits.push(lit(variables, *number)?)?;
     }
@@ -160,7 +160,7 @@ fn next_clause(alloc: Global, state: &mut u32) -> Result<Clause, AllocError>
     let second = next_lit(state);
     let third = next_lit(state);
     Ok(Clause {
-        lits: Listed::from_vec(vec![in alloc; first, second, third]?),
+        lits: Seq::from_vec(vec![in alloc; first, second, third]?),
     })
 }
 

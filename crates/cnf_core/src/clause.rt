@@ -1,7 +1,7 @@
 ghost use Rattle.std.specs.Prelude.{◌≡◌, true};
 ghost use Rattle.cnf_core.specs.Clause.{opposite, lit_true, clause_true, assigned, IsOver};
 
-use lists::Listed;
+use collections::Seq;
 
 /// A variable, by its number from 0, or its negation.
 #[derive(Clone, Copy, Debug, PartialEq, Eq)]
@@ -25,5 +25,5 @@ impl Lit {
 /// Literals, one of which is to be true. It is read as a set: order and repeats say nothing.
 #[derive(Debug, Drop)]
 pub struct Clause {
-    pub lits: Listed<Lit>,
+    pub lits: Seq<Lit>,
 }

@@ -3,7 +3,7 @@ ghost use Rattle.cnf_core.specs.Clause.{is_model, lit_true, clause_true, assigne
 ghost use Rattle.cnf_core.specs.Kept.{IsFormula};
 
 use crate::clause::{Clause, Lit};
-use lists::Listed;
+use collections::Seq;
 use std::alloc::{AllocError, Global};
 use std::marker::Model;
 
@@ -12,7 +12,7 @@ use std::marker::Model;
 #[derive(Debug, Drop)]
 pub struct Cnf {
     variables: usize,
-    clauses: Listed<Clause>,
+    clauses: Seq<Clause>,
 }
 
 impl Model for Cnf {
@@ -32,7 +32,7 @@ impl Cnf {
     {
         Cnf {
             variables,
-            clauses: Listed::new(alloc),
+            clauses: Seq::new(alloc),
         }
     }
 

@@ -1,7 +1,7 @@
 ghost use Rattle.std.specs.Prelude.{◌≡◌};
 
 use crate::{Chain, Clause, Cnf, Fuel, Lit, Log, few_units, is_unit, no_model};
-use lists::Listed;
+use collections::Seq;
 use std::alloc::{AllocError, Global};
 use std::test::Fail;
 
@@ -29,7 +29,7 @@ fn clause(lits: Vec<Lit>) -> Clause
     ensures { result.lits ≡ lits.items }
 {
     Clause {
-        lits: Listed::from_vec(lits),
+        lits: Seq::from_vec(lits),
     }
 }
 
@@ -143,8 +143,8 @@ fn a_refuted_formula_has_no_model(rt: HostRuntime) -> Result<(), Fail> {
     let mut cnf = Cnf::new(rt.alloc(), 1);
     cnf.push(clause(vec![in rt.alloc(); X]?))?;
     cnf.push(clause(vec![in rt.alloc(); NOT_X]?))?;
-    let steps = Listed::from_vec(vec![in rt.alloc(); (X, 1)]?);
-    let chains = Listed::from_vec(vec![in rt.alloc(); Chain { first: 0, steps }]?);
+    let steps = Seq::from_vec(vec![in rt.alloc(); (X, 1)]?);
+    let chains = Seq::from_vec(vec![in rt.alloc(); Chain { first: 0, steps }]?);
     let log = Log { chains };
     no_model(&cnf, &log);
     few_units(&cnf, &log);

@@ -3,7 +3,7 @@ ghost use Rattle.cnf_core.specs.Clause.{IsOver};
 
 use anyhow::{Result, bail, ensure};
 use cnf_core::{Chain, Clause, Cnf, Lit, Log};
-use lists::Listed;
+use collections::Seq;
 use std::alloc::Global;
 use std::io;
 use std::io::{BufRead, BufReader};
@@ -21,7 +21,7 @@ impl Input {
         Input {
             cnf: Cnf::new(alloc, 0),
             log: Log {
-                chains: Listed::new(alloc),
+                chains: Seq::new(alloc),
             },
         }
     }
@@ -79,7 +79,7 @@ fn lit(word: &str) -> Result<Option<Lit>> {
 fn clause(alloc: Global, variables: usize, line: &str) -> Result<Clause>
     ensures { IfOk result (λ c. IsOver variables c.lits) }
 {
-    let mut lits = Listed::new(alloc);
+    let mut lits = Seq::new(alloc);
     for word in line.split_whitespace() {
         let Some(lit) = lit(word)? else {
             return Ok(Clause { lits });
@@ -97,7 +97,7 @@ fn chain(alloc: Global, line: &str) -> Result<Chain> {
         bail!("no first clause: {line}");
     };
     let first = word.parse::<usize>()?;
-    let mut steps = Listed::new(alloc);
+    let mut steps = Seq::new(alloc);
     let mut pivot = None;
     for word in words {
         if let Some(lit) = pivot {

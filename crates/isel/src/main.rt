@@ -1,7 +1,7 @@
 //! The program `isel`: it makes the real files and streams, and hands them to the commands.
 #![tactic(auto)]
 
-use isel_cmd::outside::{RealFiles, RealOut};
+use isel_base::{RealFiles, RealOut};
 use isel_cmd::run_here;
 use std::alloc::{AllocError, Global};
 use std::env;

@@ -6,7 +6,7 @@ use Rattle.isel_spec.specs.File.{File, Goal}
 use Rattle.pattern_core.specs.declared.pattern.Pattern.{Pattern}
 use Rattle.pattern_core.specs.declared.pattern.GoalAnswer.{GoalAnswer}
 use Rattle.pattern_core.specs.declared.pattern.GoalAnswer.TheVariants as answer
-use Rattle.isel_cmd.specs.Text.{library_text}
+use Rattle.pattern_text.specs.Text.{library_text}
 use Rattle.isel_cmd.specs.Program.{IsLibraryText}
 use Rattle.pattern_core.specs.Library.{AreRules, IsLibrary, IsAnswer, IsRight}
 

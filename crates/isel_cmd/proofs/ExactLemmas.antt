@@ -4,8 +4,8 @@ use Rattle.std.proofs.lemmas.List.{append_cancel_left, take-append-le, length-ta
 use Rattle.std.proofs.lemmas.Bool.{or_right, or_parts}
 use Rattle.std.proofs.lemmas.Bool.Decides.{nat_tests}
 use Rattle.std.proofs.Math.Seq.{take-append-add}
-use Rattle.isel_cmd.specs.Text.{line}
-use Rattle.isel_cmd.specs.Outside.{HasPrefix}
+use Rattle.pattern_text.specs.Text.{line}
+use Rattle.isel_base.specs.Outside.{HasPrefix}
 use Rattle.isel_cmd.specs.Program.{with_text, note_of, CutsNote, IsCommandStatus}
 
 -- whether the text has a line feed

@@ -1,16 +1,4 @@
-pub mod Told
-pub mod Joined
-pub mod AnswersText
 pub mod Compared
-pub mod ListLemmas
-pub mod ReadLemmas
-pub mod InputLemmas
-pub mod TupleLemmas
-pub mod PatternLemmas
-pub mod RuleLemmas
-pub mod LibraryLemmas
-pub mod SoundLemmas
-pub mod TriedLemmas
 pub mod AnswerLemmas
 pub mod RefusalLemmas
 pub mod FormLemmas

@@ -13,7 +13,7 @@ use Rattle.isel_spec.specs.declared.subject.Subject.TheVariants as subject
 use Rattle.isel_spec.specs.File.{File, Operation, Goal}
 use Rattle.isel_spec.specs.Text.{numeral, is_name, each}
 use Rattle.isel_spec.specs.Form.{IsFirstFile, Definition, Binding, where_true, operations, goals, is_small, bits_of, sort_from, sort_in, binding, arg_in, goal_arg_in, binding_in, definition_in, scope_of, list_of, tree_view, first_of, two_of, three_of, pointer_in, members_in, word_in, parts_in, differ, term_of, headed_in}
-use Rattle.isel_cmd.specs.Enumeration.{IsPlain, HasFewInputs}
+use Rattle.plain_search.specs.Enumeration.{IsPlain, HasFewInputs}
 use Rattle.isel_cmd.specs.Program.{HasOneGoal}
 
 -- what a chain of steps that may fail gave, its first step gave

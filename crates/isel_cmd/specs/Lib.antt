@@ -1,10 +1,4 @@
-pub mod Outside
-pub mod Fakes
-pub mod Text
 pub mod Words
 pub mod Command
 pub mod Program
-pub mod Enumeration
-pub mod Cases
-pub mod Candidates
 pub mod Refusal

@@ -4,9 +4,9 @@ use Rattle.isel_spec.specs.File.{File, Goal}
 use Rattle.isel_spec.specs.Form.{IsFirstFile}
 use Rattle.pattern_core.specs.declared.pattern.GoalAnswer.{GoalAnswer}
 use Rattle.pattern_core.specs.Library.{IsAnswer}
-use Rattle.isel_cmd.specs.Text.{line, library_text}
-use Rattle.isel_cmd.specs.Outside.{HasPrefix}
-use Rattle.isel_cmd.specs.Enumeration.{IsSearchable}
+use Rattle.pattern_text.specs.Text.{line, library_text}
+use Rattle.isel_base.specs.Outside.{HasPrefix}
+use Rattle.plain_search.specs.Enumeration.{IsSearchable}
 
 -- the bytes are no file of the small form
 abbrev pub IsNoFile : List ℕ → Type 0

@@ -1,13 +1,9 @@
 //! The commands of the program, over a source of files and two sinks that are handed in.
 #![tactic(auto)]
 
-mod enumeration;
-pub mod outside;
 mod program;
-mod text;
 mod words;
 
-pub use enumeration::search;
 pub use program::run_here;
 pub use words::{Command, parse};
 

@@ -4,18 +4,18 @@ ghost use Rattle.isel_spec.specs.Spec.{file};
 ghost use Rattle.isel_spec.specs.Form.{IsFirstFile};
 ghost use Rattle.pattern_core.specs.Library.{IsAnswer};
 ghost use Rattle.std.specs.String.{string_bytes};
-ghost use Rattle.isel_cmd.specs.Outside.{Rose, HasPrefix};
+ghost use Rattle.isel_base.specs.Outside.{Rose, HasPrefix};
 ghost use Rattle.isel_cmd.specs.Words.{IsSynth, HasNoForm};
 ghost use Rattle.isel_cmd.specs.Refusal.{refused_status};
 ghost use Rattle.isel_cmd.specs.Program.{IsNoFile, IsLibraryText, IsLibraryOf, HasOneGoal, WritesLibrary, WritesAtMostPart, CutsNote, IsCommandStatus, with_text, note_of};
 
-use crate::enumeration::search;
-use crate::outside::{Files, ReadAllFault, Sink, put_all, read_all};
-use crate::text::write_library;
 use crate::words::parse;
+use isel_base::{Files, ReadAllFault, Sink, put_all, read_all};
 use isel_spec::{FirstFault, Spec, read_first};
-use lists::Listed;
+use collections::Seq;
 use pattern_core::GoalAnswer;
+use pattern_text::write_library;
+use plain_search::search;
 use std::alloc::{AllocError, Global};
 use std::slice;
 
@@ -53,7 +53,7 @@ fn answer(alloc: Global, spec: &Spec, bound: u8) -> Result<GoalAnswer, AllocErro
     let size = first.nodes.len() as u8;
     Ok(GoalAnswer::Complete {
         size,
-        rules: Listed::from_vec(rules),
+        rules: Seq::from_vec(rules),
     })
 }
 

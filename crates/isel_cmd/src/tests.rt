@@ -1,7 +1,7 @@
 ghost use Rattle.std.specs.Prelude.{◌≤◌};
 
-use crate::outside::{MemFiles, MemSink};
 use crate::program::run_here;
+use isel_base::{MemFiles, MemSink};
 use std::alloc::{AllocError, Global};
 use std::test::Fail;
 

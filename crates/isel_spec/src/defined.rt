@@ -1,6 +1,6 @@
 use crate::subject::Subject;
 use bv_terms::{Sort, TermId};
-use lists::Named;
+use collections::NameMap;
 
 /// What an item of a file defines: its name, its arguments with their sorts, its cost, which is 0 for
 /// an operation, and its result.
@@ -8,7 +8,7 @@ use lists::Named;
 pub struct Defined {
     pub subject: Subject,
     pub name: String,
-    pub scope: Named<Sort>,
+    pub scope: NameMap<Sort>,
     pub cost: u32,
     pub result: TermId,
 }

@@ -1,14 +1,14 @@
 use bv_terms::{Sort, TermId};
-use lists::Listed;
+use collections::Seq;
 
 /// An IR operation: the sorts of its arguments, the widths of its attributes in bits, and its
 /// results. In the terms of the results argument `k` is input `k`, and attribute `j` is the input
 /// `j` after the arguments.
 #[derive(Debug, Drop)]
 pub struct OpDef {
-    pub args: Listed<Sort>,
-    pub attrs: Listed<u8>,
-    pub results: Listed<TermId>,
+    pub args: Seq<Sort>,
+    pub attrs: Seq<u8>,
+    pub results: Seq<TermId>,
 }
 
 /// Where a target instruction takes an argument from: a register, an immediate operand, or memory.
@@ -23,7 +23,7 @@ pub enum Kind {
 /// In the terms of the results argument `k` is input `k`.
 #[derive(Debug, Drop)]
 pub struct GoalDef {
-    pub args: Listed<(Kind, Sort)>,
-    pub results: Listed<TermId>,
+    pub args: Seq<(Kind, Sort)>,
+    pub results: Seq<TermId>,
     pub cost: u32,
 }

@@ -11,20 +11,20 @@ use crate::fault::FirstFault;
 use crate::scope::sorts;
 use crate::subject::Subject;
 use bv_terms::{Sort, TermId};
-use lists::{Listed, Named};
+use collections::{Seq, NameMap};
 use std::alloc::{AllocError, Global};
 
 /// A list of one result.
-fn only(alloc: Global, at: TermId) -> Result<Listed<TermId>, AllocError>
+fn only(alloc: Global, at: TermId) -> Result<Seq<TermId>, AllocError>
     ensures { IfOk result (λ results. results ≡ at ∷ []) }
 {
-    let mut results = Listed::new(alloc);
+    let mut results = Seq::new(alloc);
     results.push(at)?;
     Ok(results)
 }
 
 /// Registers for arguments of these sorts.
-fn registers(alloc: Global, scope: &Named<Sort>) -> Result<Listed<(Kind, Sort)>, AllocError>
+fn registers(alloc: Global, scope: &NameMap<Sort>) -> Result<Seq<(Kind, Sort)>, AllocError>
     ensures { IfOk result (λ args. args ≡ map (λ b. (Kind.Reg, b.1)) scope.now) }
 {
     let mut args = Vec::new(alloc);
@@ -32,11 +32,11 @@ fn registers(alloc: Global, scope: &Named<Sort>) -> Result<Listed<(Kind, Sort)>,
         let (_, sort) = scope.get(place).unwrap();
         args.push((Kind::Reg, *sort))?;
     }
-    Ok(Listed::from_vec(args))
+    Ok(Seq::from_vec(args))
 }
 
 /// Adds a definition that is one of an operation, unless its name is there.
-fn add_operation(alloc: Global, ops: &mut Named<OpDef>, read: &Defined) -> Result<(), FirstFault>
+fn add_operation(alloc: Global, ops: &mut NameMap<OpDef>, read: &Defined) -> Result<(), FirstFault>
     ensures { Tells result (λ _. AddsEntries ops.old ops.new (op_entries (read.now ∷ [])))
         ((rest : List (List ℕ × OpDef)) → differ (map (λ e. e.0) (ops.old ++ op_entries (read.now ∷ []) ++ rest)) ≡ false) }
 {
@@ -48,7 +48,7 @@ fn add_operation(alloc: Global, ops: &mut Named<OpDef>, read: &Defined) -> Resul
     }
     let def = OpDef {
         args: sorts(alloc, &read.scope)?,
-        attrs: Listed::new(alloc),
+        attrs: Seq::new(alloc),
         results: only(alloc, read.result)?,
     };
     ops.insert(String::from_str(alloc, read.name.as_str())?, def)?;
@@ -56,10 +56,10 @@ fn add_operation(alloc: Global, ops: &mut Named<OpDef>, read: &Defined) -> Resul
 }
 
 /// The operations among the definitions, under names that differ.
-pub fn operations(alloc: Global, reads: &[Defined]) -> Result<Named<OpDef>, FirstFault>
+pub fn operations(alloc: Global, reads: &[Defined]) -> Result<NameMap<OpDef>, FirstFault>
     ensures { Tells result (λ ops. IsNamed ops (op_entries reads.now)) (differ (map (λ e. e.0) (op_entries reads.now)) ≡ false) }
 {
-    let mut ops = Named::new(alloc);
+    let mut ops = NameMap::new(alloc);
     for read in reads {
         add_operation(alloc, &mut ops, read)?;
     }
@@ -67,7 +67,7 @@ pub fn operations(alloc: Global, reads: &[Defined]) -> Result<Named<OpDef>, Firs
 }
 
 /// Adds a definition that is one of a goal, unless its name is there.
-fn add_goal(alloc: Global, goals: &mut Named<GoalDef>, read: &Defined) -> Result<(), FirstFault>
+fn add_goal(alloc: Global, goals: &mut NameMap<GoalDef>, read: &Defined) -> Result<(), FirstFault>
     ensures { Tells result (λ _. AddsEntries goals.old goals.new (goal_entries (read.now ∷ [])))
         ((rest : List (List ℕ × GoalDef)) → differ (map (λ e. e.0) (goals.old ++ goal_entries (read.now ∷ []) ++ rest)) ≡ false) }
 {
@@ -87,10 +87,10 @@ fn add_goal(alloc: Global, goals: &mut Named<GoalDef>, read: &Defined) -> Result
 }
 
 /// The goals among the definitions, under names that differ.
-pub fn goals(alloc: Global, reads: &[Defined]) -> Result<Named<GoalDef>, FirstFault>
+pub fn goals(alloc: Global, reads: &[Defined]) -> Result<NameMap<GoalDef>, FirstFault>
     ensures { Tells result (λ goals. IsNamed goals (goal_entries reads.now)) (differ (map (λ e. e.0) (goal_entries reads.now)) ≡ false) }
 {
-    let mut goals = Named::new(alloc);
+    let mut goals = NameMap::new(alloc);
     for read in reads {
         add_goal(alloc, &mut goals, read)?;
     }

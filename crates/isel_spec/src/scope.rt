@@ -12,7 +12,7 @@ use crate::fault::FirstFault;
 use crate::parts::binding;
 use crate::subject::Subject;
 use bv_terms::Sort;
-use lists::{Listed, Named};
+use collections::{Seq, NameMap};
 use sexp_read::Forest;
 use std::alloc::{AllocError, Global};
 
@@ -26,7 +26,7 @@ pub fn scope(
     bytes: &[u8],
     forest: &Forest,
     items: &[usize],
-) -> Result<Named<Sort>, FirstFault>
+) -> Result<NameMap<Sort>, FirstFault>
     requires reading { IsReading bytes.now forest.now }
     requires items_in { All (λ item. item < length forest.now.items) items.now }
     ensures tells { Tells result
@@ -34,7 +34,7 @@ pub fn scope(
         (option_and_then scope_of (each (binding_in subject (item_view bytes.now forest.now.items)) items.now) ≡ None) }
     ensures few { IfOk result (λ scope. length scope ≤ 4) }
 {
-    let mut scope = Named::new(alloc);
+    let mut scope = NameMap::new(alloc);
     for item in items {
         let Some((name, sort)) = binding(subject, bytes, forest, *item) else {
             return Err(FirstFault::Outside);
@@ -51,7 +51,7 @@ pub fn scope(
 }
 
 /// The sorts of a definition's arguments.
-pub fn sorts(alloc: Global, scope: &Named<Sort>) -> Result<Listed<Sort>, AllocError>
+pub fn sorts(alloc: Global, scope: &NameMap<Sort>) -> Result<Seq<Sort>, AllocError>
     ensures { IfOk result (λ sorts. sorts ≡ map (λ b. b.1) scope.now) }
 {
     let mut sorts = Vec::new(alloc);
@@ -59,5 +59,5 @@ pub fn sorts(alloc: Global, scope: &Named<Sort>) -> Result<Listed<Sort>, AllocEr
         let (_, sort) = scope.get(place).unwrap();
         sorts.push(*sort)?;
     }
-    Ok(Listed::from_vec(sorts))
+    Ok(Seq::from_vec(sorts))
 }

@@ -9,7 +9,7 @@ ghost use Rattle.isel_spec.specs.Form.{bits_of, differ, is_small};
 
 use crate::definitions::{GoalDef, Kind, OpDef};
 use bv_terms::Sort;
-use lists::Named;
+use collections::NameMap;
 
 /// How many bits a goal's inputs may have together.
 const MOST_BITS: u32 = 12;
@@ -43,7 +43,7 @@ fn has_few_bits(args: &[(Kind, Sort)]) -> bool
 }
 
 /// Whether no operation has that name.
-fn is_new(ops: &Named<OpDef>, name: &str) -> bool
+fn is_new(ops: &NameMap<OpDef>, name: &str) -> bool
     ensures { result ≡ not (list_any (bytes_eq name.now) (map (λ e. e.0) ops.now)) }
 {
     !ops.contains(name)
@@ -56,7 +56,7 @@ fn is_count(count: usize) -> bool
 }
 
 /// Whether a goal of that name and with these inputs may stand beside the operations.
-fn goes_with(ops: &Named<OpDef>, name: &str, args: &[(Kind, Sort)]) -> bool
+fn goes_with(ops: &NameMap<OpDef>, name: &str, args: &[(Kind, Sort)]) -> bool
     ensures { result ≡ (is_between 1 6 (length ops.now) && nat_le (sum (map bits_of (map (λ a. a.1) args.now))) 12
         && not (list_any (bytes_eq name.now) (map (λ e. e.0) ops.now))) }
 {
@@ -65,7 +65,7 @@ fn goes_with(ops: &Named<OpDef>, name: &str, args: &[(Kind, Sort)]) -> bool
 
 /// Whether there are one to six operations and one goal, whose inputs have at most 12 bits together
 /// and whose name no operation has.
-pub fn is_small(ops: &Named<OpDef>, goals: &Named<GoalDef>) -> bool
+pub fn is_small(ops: &NameMap<OpDef>, goals: &NameMap<GoalDef>) -> bool
     requires { differ (map (λ e. e.0) ops.now) ≡ true }
     ensures { (table : Table) → result ≡ is_small (map (operation table) ops.now) (map (goal table) goals.now) }
 {

@@ -14,12 +14,12 @@ use crate::fault::FirstFault;
 use crate::parts::members;
 use crate::words::{literal, operator};
 use bv_terms::{Op, Sort, TermId, Terms};
-use lists::Named;
+use collections::NameMap;
 use sexp_read::Forest;
 use std::alloc::Global;
 
 /// The input that a name stands for.
-fn input(scope: &Named<Sort>, word: &[u8]) -> Option<Op>
+fn input(scope: &NameMap<Sort>, word: &[u8]) -> Option<Op>
     requires { length scope.now ≤ 4 }
     ensures { result ≡ input_named 0 scope.now word.now }
 {
@@ -37,7 +37,7 @@ fn input(scope: &Named<Sort>, word: &[u8]) -> Option<Op>
 }
 
 /// The constant or the input that a word is.
-fn leaf(scope: &Named<Sort>, word: &[u8]) -> Option<Op>
+fn leaf(scope: &NameMap<Sort>, word: &[u8]) -> Option<Op>
     requires { length scope.now ≤ 4 }
     ensures { result ≡ leaf scope.now word.now }
 {
@@ -61,7 +61,7 @@ fn make(terms: &mut Terms, op: Op, args: &[TermId]) -> Result<TermId, FirstFault
 }
 
 /// The term that a word is.
-fn word_term(scope: &Named<Sort>, terms: &mut Terms, word: &[u8]) -> Result<TermId, FirstFault>
+fn word_term(scope: &NameMap<Sort>, terms: &mut Terms, word: &[u8]) -> Result<TermId, FirstFault>
     requires { length scope.now ≤ 4 }
     ensures extends { Extends terms.old terms.new }
     ensures tells { Tells result (IsTermOf terms.new (option_and_then (λ op. well_sorted (Apply op End)) (leaf scope.now word.now)))
@@ -91,7 +91,7 @@ pub fn term(
     alloc: Global,
     bytes: &[u8],
     forest: &Forest,
-    scope: &Named<Sort>,
+    scope: &NameMap<Sort>,
     terms: &mut Terms,
     item: usize,
 ) -> Result<TermId, FirstFault>

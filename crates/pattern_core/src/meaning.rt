@@ -14,7 +14,7 @@ use crate::pattern::{Node, Pattern, Src};
 use crate::well_formed::{goal_at, operation_at};
 use bv_terms::{Env, TermId, Terms, Value};
 use isel_spec::{OpDef, Spec};
-use lists::Listed;
+use collections::Seq;
 use std::alloc::{AllocError, Global};
 
 /// The values of terms of a table, in order. `room` has a place for each node of the table.
@@ -51,7 +51,7 @@ pub fn eval_goal(
     let mut room = vec![in alloc; Value::Bool(false); spec.terms.len()]?;
     let definition = goal_at(spec, goal);
     let env = Env {
-        values: Listed::from_vec(Vec::from_slice(alloc, inputs)?),
+        values: Seq::from_vec(Vec::from_slice(alloc, inputs)?),
     };
     let results = definition.results.as_slice();
     values_of(alloc, &spec.terms, results, &env, &mut room)
@@ -68,7 +68,7 @@ fn value_at(values: &[Value], place: usize) -> Value
 }
 
 /// The value of a source, where the inputs and the results of the nodes so far have these values.
-fn source_value(inputs: &[Value], outs: &[Listed<Value>], source: Src) -> Value
+fn source_value(inputs: &[Value], outs: &[Seq<Value>], source: Src) -> Value
     ensures { result ≡ source_value inputs.now outs.now source }
 {
     match source {
@@ -87,7 +87,7 @@ fn source_value(inputs: &[Value], outs: &[Listed<Value>], source: Src) -> Value
 fn source_values(
     alloc: Global,
     inputs: &[Value],
-    outs: &[Listed<Value>],
+    outs: &[Seq<Value>],
     sources: &[Src],
 ) -> Result<Vec<Value>, AllocError>
     ensures { IfOk result (λ v. v.items ≡ map (source_value inputs.now outs.now) sources.now) }
@@ -118,7 +118,7 @@ fn node_inputs(
     operation: &OpDef,
     node: &Node,
     inputs: &[Value],
-    outs: &[Listed<Value>],
+    outs: &[Seq<Value>],
 ) -> Result<Env, AllocError>
     ensures { IfOk result (λ env. env.values ≡ map (source_value inputs.now outs.now) node.now.args ++ attr_values operation.now.attrs node.now.attrs) }
 {
@@ -129,7 +129,7 @@ fn node_inputs(
         node.attrs.as_slice(),
     )?;
     Ok(Env {
-        values: Listed::from_vec(values),
+        values: Seq::from_vec(values),
     })
 }
 
@@ -139,7 +139,7 @@ fn node_results(
     spec: &Spec,
     node: &Node,
     inputs: &[Value],
-    outs: &[Listed<Value>],
+    outs: &[Seq<Value>],
     room: &mut [Value],
 ) -> Result<Vec<Value>, AllocError>
     requires given { IsNodeGiven spec.now node.now inputs.now outs.now }
@@ -160,18 +160,18 @@ fn all_results(
     nodes: &[Node],
     inputs: &[Value],
     room: &mut [Value],
-) -> Result<Vec<Listed<Value>>, AllocError>
+) -> Result<Vec<Seq<Value>>, AllocError>
     requires there { goal < length spec.now.goals }
     requires fits { (g : Goal) → slice_get (file spec.now).goals goal ≡ Some g → AreFitting (file spec.now) g nodes.now }
     requires inputs { (g : Goal) → slice_get (file spec.now).goals goal ≡ Some g → HaveSorts g.args inputs.now }
     requires room { length spec.now.terms.nodes ≤ length room.old }
     ensures { IfOk result (λ outs. outs.items ≡ outs_from (file spec.now) inputs.now [] nodes.now) }
 {
-    let mut outs: Vec<Listed<Value>> = Vec::new(alloc);
+    let mut outs: Vec<Seq<Value>> = Vec::new(alloc);
     for place in 0..nodes.len() {
         let node = &nodes[place];
         let found = node_results(alloc, spec, node, inputs, outs.as_slice(), room)?;
-        outs.push(Listed::from_vec(found))?;
+        outs.push(Seq::from_vec(found))?;
     }
     Ok(outs)
 }

@@ -1,4 +1,4 @@
-use lists::Listed;
+use collections::Seq;
 
 /// Where an argument of a node or a result of a pattern comes from: an input of the goal, or a
 /// result of a node. All are counted from 0.
@@ -12,21 +12,21 @@ pub enum Src {
 #[derive(Debug, Drop)]
 pub struct Node {
     pub op: u16,
-    pub attrs: Listed<u64>,
-    pub args: Listed<Src>,
+    pub attrs: Seq<u64>,
+    pub args: Seq<Src>,
 }
 
 /// Nodes, each over earlier ones, and the sources of the goal's results.
 #[derive(Debug, Drop)]
 pub struct Pattern {
-    pub nodes: Listed<Node>,
-    pub results: Listed<Src>,
+    pub nodes: Seq<Node>,
+    pub results: Seq<Src>,
 }
 
 /// What a library says of a goal: all its patterns of the least size that has one, or that none of
 /// the sizes within the bound has one.
 #[derive(Debug, Drop)]
 pub enum GoalAnswer {
-    Complete { size: u8, rules: Listed<Pattern> },
+    Complete { size: u8, rules: Seq<Pattern> },
     None,
 }

@@ -1,7 +1,7 @@
 ghost use Rattle.std.specs.Prelude.{◌≡◌, ◌≤◌, length, IfOk};
 
 use crate::{Node, Pattern, Src, order};
-use lists::Listed;
+use collections::Seq;
 use std::alloc::{AllocError, Global};
 use std::cmp::Ordering;
 use std::test::Fail;
@@ -10,15 +10,15 @@ use std::test::Fail;
 fn pattern(alloc: Global, ops: &[u16], source: Src) -> Result<Pattern, AllocError>
     ensures { IfOk result (λ p. length p.nodes ≡ length ops.now) }
 {
-    let mut nodes = Listed::new(alloc);
+    let mut nodes = Seq::new(alloc);
     for op in ops {
         nodes.push(Node {
             op: *op,
-            attrs: Listed::new(alloc),
-            args: Listed::new(alloc),
+            attrs: Seq::new(alloc),
+            args: Seq::new(alloc),
         })?;
     }
-    let mut results = Listed::new(alloc);
+    let mut results = Seq::new(alloc);
     results.push(source)?;
     Ok(Pattern { nodes, results })
 }

@@ -8,7 +8,7 @@ ghost use Rattle.proof_check.specs.LitSet.{AreDistinct};
 
 use crate::marks::Marks;
 use cnf_core::{Clause, Lit};
-use lists::Listed;
+use collections::Seq;
 use std::alloc::{AllocError, Global};
 use std::marker::Model;
 
@@ -83,7 +83,7 @@ impl LitSet {
         ensures distinct { IfOk result (λ c. AreDistinct c.lits) }
         ensures empty { OnOk result (self.new.lits ≡ []) }
     {
-        let mut lits = Listed::new(alloc);
+        let mut lits = Seq::new(alloc);
         unmark(&mut self.marks, self.added.as_slice(), &mut lits)?;
         self.added.clear();
         Ok(Clause { lits })
@@ -91,7 +91,7 @@ impl LitSet {
 }
 
 /// Takes the marks of these literals away, and adds each one that was marked to a list.
-fn unmark(marks: &mut Marks, added: &[Lit], lits: &mut Listed<Lit>) -> Result<(), AllocError>
+fn unmark(marks: &mut Marks, added: &[Lit], lits: &mut Seq<Lit>) -> Result<(), AllocError>
     requires same { length marks.old.positive.items ≡ length marks.old.negative.items }
     requires empty { lits.old ≡ [] }
     requires listed { (l : Lit) → is_marked marks.old l ≡ true → has added.now l ≡ true }

@@ -5,7 +5,7 @@
 
 use crate::{Verdict, are_units, check_log};
 use cnf_core::{Chain, Clause, Cnf, Lit, Log};
-use lists::Listed;
+use collections::Seq;
 use std::alloc::{AllocError, Global};
 use std::test::Fail;
 
@@ -19,12 +19,12 @@ fn lit(number: i32) -> Lit {
 /// A formula over two variables.
 fn formula(alloc: Global, numbers: &[i32]) -> Result<Cnf, AllocError> {
     let mut cnf = Cnf::new(alloc, 2);
-    let mut lits = Listed::new(alloc);
+    let mut lits = Seq::new(alloc);
     for number in numbers {
         let lit = lit(*number);
         if *number == 0 {
             cnf.push(Clause { lits })?;
-            lits = Listed::new(alloc);
+            lits = Seq::new(alloc);
         } else if lit.variable < 2 {
             lits.push(lit)?;
         }
@@ -38,14 +38,14 @@ fn log(alloc: Global, pairs: &[(i32, usize)]) -> Result<Log, AllocError> {
         if *pivot == 0 {
             chains.push(Chain {
                 first: *number,
-                steps: Listed::new(alloc),
+                steps: Seq::new(alloc),
             })?;
         } else if let Some(chain) = chains.last_mut() {
             chain.steps.push((lit(*pivot), *number))?;
         }
     }
     Ok(Log {
-        chains: Listed::from_vec(chains),
+        chains: Seq::from_vec(chains),
     })
 }
 

@@ -6,7 +6,7 @@ ghost use Rattle.sexp_read.specs.Progress.{HasBuilt, IsBuilt, AddsMember, Holds,
 
 use crate::fault::SexpFault;
 use crate::forest::{Body, Forest, Item};
-use lists::Listed;
+use collections::Seq;
 use std::alloc::Global;
 
 /// How many lists may be open at once.
@@ -17,7 +17,7 @@ const DEPTH_LIMIT: usize = 256;
 pub struct OpenList {
     pub number: usize,
     pub from: usize,
-    pub members: Listed<usize>,
+    pub members: Seq<usize>,
 }
 
 /// The items of the tokens so far. The item of a list that is open holds its place and no more.
@@ -26,7 +26,7 @@ pub struct Builder {
     pub items: Vec<Item>,
     /// The innermost last.
     pub unclosed: Vec<OpenList>,
-    pub outermost: Listed<usize>,
+    pub outermost: Seq<usize>,
 }
 
 impl Builder {
@@ -36,7 +36,7 @@ impl Builder {
         Builder {
             items: Vec::new(alloc),
             unclosed: Vec::new(alloc),
-            outermost: Listed::new(alloc),
+            outermost: Seq::new(alloc),
         }
     }
 
@@ -87,7 +87,7 @@ impl Builder {
         self.unclosed.push(OpenList {
             number,
             from: place,
-            members: Listed::new(alloc),
+            members: Seq::new(alloc),
         })?;
         Ok(())
     }
@@ -132,7 +132,7 @@ impl Builder {
         match unclosed.first() {
             Some(list) => Err(SexpFault::Unclosed(list.from)),
             None => Ok(Forest {
-                items: Listed::from_vec(items),
+                items: Seq::from_vec(items),
                 outermost,
             }),
         }

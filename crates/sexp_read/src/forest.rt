@@ -2,7 +2,7 @@ ghost use Rattle.std.specs.Prelude.{◌≡◌, ℕ, ◌<◌, ◌≤◌, ◌↔�
 ghost use Rattle.std.specs.List.{All};
 ghost use Rattle.sexp_read.specs.Forest.{IsReading, text_at, atom_at, children_at, head_at};
 
-use lists::Listed;
+use collections::Seq;
 
 /// A word or a list of a text, with its span: it takes the bytes from `from` up to `to`, without `to`.
 #[derive(Debug, Drop)]
@@ -21,16 +21,16 @@ pub enum Body {
     /// A word: its bytes are those of the span.
     Atom,
     /// A list, with the numbers of its members, in order.
-    List { children: Listed<usize> },
+    List { children: Seq<usize> },
 }
 
 /// All words and lists of a text, nested ones too.
 #[derive(Debug, Drop)]
 pub struct Forest {
     /// In order of their first bytes. An item's number is its place here.
-    pub items: Listed<Item>,
+    pub items: Seq<Item>,
     /// The numbers of the items that stand in no list, in order.
-    pub outermost: Listed<usize>,
+    pub outermost: Seq<usize>,
 }
 
 impl Forest {

@@ -6,7 +6,7 @@ use Rattle.isel_spec.specs.Spec.{file}
 use Rattle.isel_spec.specs.File.{goal as goal_at}
 use Rattle.isel_cmd.specs.Program.{IsLibraryText}
 use Rattle.isel_cmd.proofs.AnswerLemmas.{text_of}
-use Rattle.isel_cmd.specs.Text.{library_text}
+use Rattle.pattern_text.specs.Text.{library_text}
 use Rattle.isel_cmd.proofs.program.library_of.Goals as goal
 
 pub write_library-requires : goal.write_library-requires

@@ -1,5 +1,5 @@
 use Rattle.std.proofs.Common.{ℕ, List, ◌∙◌, subst}
-use Rattle.isel_cmd.specs.Outside.{HasPrefix}
+use Rattle.isel_base.specs.Outside.{HasPrefix}
 use Rattle.isel_cmd.specs.Refusal.{refused_status}
 use Rattle.isel_cmd.proofs.program.refuse.Goals as goal
 

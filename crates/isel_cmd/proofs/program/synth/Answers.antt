@@ -1,6 +1,6 @@
 use Rattle.std.proofs.Common.{◌≡◌, ℕ, List, ap, Err, inl, inr, refl, subst}
 use Rattle.std.specs.String.{string_bytes}
-use Rattle.isel_cmd.specs.Outside.{HasPrefix}
+use Rattle.isel_base.specs.Outside.{HasPrefix}
 use Rattle.isel_cmd.specs.declared.program.Refusal.TheVariants.{Outside}
 use Rattle.isel_cmd.proofs.RefusalLemmas.{refused_three}
 use Rattle.isel_cmd.proofs.program.synth.Goals as goal

@@ -1,8 +1,0 @@
-use Rattle.std.proofs.Common.{arith}
-use Rattle.isel_cmd.specs.Text.{source_text}
-use Rattle.isel_cmd.proofs.Joined.{appended_more}
-use Rattle.isel_cmd.proofs.text.push_sources.Goals as goal
-
-pub loop-place-preserved : goal.loop-place-preserved
-loop-place-preserved c =
-    appended_more source_text _ _ _ _ _ _ _ (omega arith) c.loop-place.invariant c.in_ok-push_gap.ensures c.in_ok-push_source.ensures

@@ -1,0 +1,9 @@
+pub mod ListLemmas
+pub mod ReadLemmas
+pub mod InputLemmas
+pub mod TupleLemmas
+pub mod PatternLemmas
+pub mod RuleLemmas
+pub mod LibraryLemmas
+pub mod SoundLemmas
+pub mod TriedLemmas

@@ -1,0 +1,47 @@
+-- All inputs of some sorts, by numbers, and whether a value is the goal's result at each.
+use Rattle.std.specs.Prelude.{ℕ, ◌/◌, ◌%◌, ◌^◌, List, [], ◌∷◌, map, sum_by, slice_get, unwrap_or, Bool, true, false, ◌&&◌, ◌==◌, not}
+use Rattle.std.specs.List.{list_all, range_with_len}
+use Rattle.bv_terms.specs.declared.value.Sort.{Sort}
+use Rattle.bv_terms.specs.declared.value.Sort.TheVariants as sort
+use Rattle.bv_terms.specs.declared.value.Value.{Value}
+use Rattle.bv_terms.specs.declared.value.Value.TheVariants as val
+use Rattle.bv_terms.specs.Term.{Term, value}
+use Rattle.isel_spec.specs.Form.{bits_of}
+use Rattle.plain_search.specs.declared.cases.Case.{Case}
+
+-- the value of a sort that a number stands for
+abbrev pub value_numbered : Sort → ℕ → Value
+value_numbered sort.Bool n = val.Bool (n == 1)
+value_numbered (sort.Bits w) n = val.Bits w n
+value_numbered sort.Mem n = val.Bool false
+
+-- the inputs of these sorts under a number, whose lowest bits are the first input's
+abbrev pub inputs_numbered : List Sort → ℕ → List Value
+inputs_numbered [] n = []
+inputs_numbered (s ∷ ss) n = value_numbered s (n % 2 ^ bits_of s) ∷ inputs_numbered ss (n / 2 ^ bits_of s)
+
+-- the inputs under a number, and a term's value there
+abbrev pub case_numbered : List Sort → Term → ℕ → Case
+case_numbered ss t n = record { inputs = record { values = inputs_numbered ss n }; result = value (inputs_numbered ss n) t }
+
+-- all inputs of these sorts, and a term's value at each
+abbrev pub cases_of : List Sort → Term → List Case
+cases_of ss t = map (case_numbered ss t) (range_with_len 0 (2 ^ sum_by bits_of ss))
+
+abbrev pub same_value : Value → Value → Bool
+same_value (val.Bool true) (val.Bool b) = b
+same_value (val.Bool false) (val.Bool b) = not b
+same_value (val.Bits v m) (val.Bits w n) = (v == w) && (m == n)
+same_value (val.Bool a) (val.Bits w n) = false
+same_value (val.Bits v m) (val.Bool b) = false
+
+abbrev pub input_at : List Value → ℕ → Value
+input_at inputs k = unwrap_or (slice_get inputs k) (val.Bool false)
+
+-- whether the input in that place is the goal's result in each case
+abbrev pub input_agrees : List Case → ℕ → Bool
+input_agrees cases k = list_all (λ (c : Case). same_value (input_at c.inputs.values k) c.result) cases
+
+-- whether the term's value over the inputs in those places is the goal's result in each case
+abbrev pub term_agrees : List Case → Term → List ℕ → Bool
+term_agrees cases t ks = list_all (λ (c : Case). same_value (value (map (input_at c.inputs.values) ks) t) c.result) cases
