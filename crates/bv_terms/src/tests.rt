@@ -107,7 +107,8 @@ fn make_tells_the_first_fault(rt: HostRuntime) -> Result<(), Fail> {
 
 /// Whether each input in the table has a value of its sort.
 fn inputs_fit(terms: &Terms, env: &Env) -> bool
-    ensures { IsTrue result → (at : TermId) → at.0 < length terms.now.nodes → InputsFit env.now.values (term_at terms.now at) }
+    ensures { IsTrue result → (at : TermId) → at.0 < length terms.now.nodes
+        → InputsFit env.now.values (term_at terms.now at) }
 {
     for place in 0..terms.len() {
         let (op, _) = terms.node(TermId(place));
