@@ -1,5 +1,7 @@
--- Which values are of a sort, and which terms are well-sorted. Source: SMT-LIB 2.6, section 5 (the well-sorted terms), logic QF_BV.
-use Rattle.std.specs.Prelude.{◌≡◌, ℕ, ◌^◌, ◌<◌, ◌≤◌, List, [], ◌∷◌, length, Option, Some, None, slice_get, option_and_then, Bool, true, false, ◌&&◌, ◌==◌, nat_lt, nat_le, if◌then◌else◌}
+-- Which values are of a sort, and which terms are well-sorted. Source: SMT-LIB 2.6, section 5 (the well-sorted terms),
+-- logic QF_BV.
+use Rattle.std.specs.Prelude.{◌≡◌, ℕ, ◌^◌, ◌<◌, ◌≤◌, List, [], ◌∷◌, length, Option, Some, None, slice_get}
+use Rattle.std.specs.Prelude.{option_and_then, Bool, true, false, ◌&&◌, ◌==◌, nat_lt, nat_le, if◌then◌else◌}
 use Rattle.bv_terms.specs.declared.op.Op.{Op}
 use Rattle.bv_terms.specs.declared.op.Op.TheVariants as op
 use Rattle.bv_terms.specs.declared.op.MakeFault.{MakeFault}
@@ -46,6 +48,12 @@ same_sort sort.Bool sort.Bool = true
 same_sort (sort.Bits v) (sort.Bits w) = v == w
 same_sort sort.Mem sort.Mem = true
 same_sort _ _ = false
+
+-- how many bits a value of the sort has; a memory is no number of bits
+abbrev pub width_of : Sort → ℕ
+width_of sort.Bool = 1
+width_of (sort.Bits w) = w
+width_of sort.Mem = 0
 
 -- the first argument whose sort does not fit: the arguments are bit-vectors, of the first one's width
 abbrev pub misfit : List Sort → Option ℕ

@@ -1,10 +1,15 @@
+//! Tests: the fault that `make` tells, values by the standard, and the nodes of subterms with their values.
+
 ghost use Rattle.std.specs.Prelude.{◌<◌, length, IsTrue};
+ghost use Rattle.bv_terms.specs.declared.op.TermId.{TermId};
 ghost use Rattle.bv_terms.specs.Sorts.{HasSort, InputFits, InputsFit};
 ghost use Rattle.bv_terms.specs.Table.{term_at};
+ghost use Rattle.bv_terms.specs.Subterm.{IsTopological};
 
 use crate::value::mask;
 use crate::*;
 use collections::Seq;
+use std::alloc::{AllocError, Global};
 use std::test::Fail;
 
 /// Makes a node where its arguments are in the table.
@@ -17,113 +22,118 @@ fn make(terms: &mut Terms, op: Op, args: &[TermId]) -> Option<Result<TermId, Mak
     }
 }
 
-#[test]
-fn make_tells_the_first_fault(rt: HostRuntime) -> Result<(), Fail> {
-    let narrow = Op::Input {
+fn input(number: u32, sort: Sort) -> Op {
+    Op::Input { number, sort }
+}
+
+/// Whether the table's nodes are these operations, each over no arguments.
+fn are_nodes(terms: &Terms, ops: &[Op]) -> bool {
+    let len = terms.len();
+    if len != ops.len() {
+        return false;
+    }
+    for place in 0..len {
+        let (op, args) = terms.node(TermId(place));
+        if *op != ops[place] || args.len() != 0 {
+            return false;
+        }
+    }
+    true
+}
+
+/// Whether a node is refused for this fault, and the table is still that of these operations.
+fn is_refused(terms: &mut Terms, op: Op, args: &[TermId], fault: MakeFault, ops: &[Op]) -> bool {
+    make(terms, op, args) == Some(Err(fault)) && are_nodes(terms, ops)
+}
+
+const INPUTS: [Op; 3] = [
+    Op::Input {
         number: 0,
         sort: Sort::Bits(8),
-    };
-    let wide = Op::Input {
+    },
+    Op::Input {
         number: 1,
         sort: Sort::Bits(16),
-    };
-    let truth = Op::Input {
+    },
+    Op::Input {
         number: 2,
         sort: Sort::Bool,
-    };
-    let none: &[TermId] = &[];
+    },
+];
+
+const REFUSED: [(&str, Op, &[TermId], MakeFault); 8] = [
+    (
+        "two widths",
+        Op::BvAdd,
+        &[TermId(0), TermId(1)],
+        MakeFault::Sorts { place: 1 },
+    ),
+    (
+        "no bit-vector first",
+        Op::BvAdd,
+        &[TermId(2), TermId(1)],
+        MakeFault::Sorts { place: 0 },
+    ),
+    (
+        "no bit-vector second",
+        Op::BvAnd,
+        &[TermId(0), TermId(2)],
+        MakeFault::Sorts { place: 1 },
+    ),
+    (
+        "three arguments",
+        Op::BvXor,
+        &[TermId(0), TermId(1), TermId(2)],
+        MakeFault::Arity,
+    ),
+    ("no argument", Op::BvNot, &[], MakeFault::Arity),
+    (
+        "input of width 0",
+        Op::Input {
+            number: 0,
+            sort: Sort::Bits(0),
+        },
+        &[],
+        MakeFault::Index,
+    ),
+    (
+        "input of width 65",
+        Op::Input {
+            number: 0,
+            sort: Sort::Bits(65),
+        },
+        &[],
+        MakeFault::Index,
+    ),
+    (
+        "constant 2^width",
+        Op::Bits {
+            width: 8,
+            number: 256,
+        },
+        &[],
+        MakeFault::Index,
+    ),
+];
+
+#[test]
+fn make_tells_the_first_fault(rt: HostRuntime) -> Result<(), Fail> {
     let mut terms = Terms::new(rt.alloc(), 32);
-    for op in [narrow, wide, truth] {
-        terms.make(op, none)?;
+    for op in INPUTS {
+        terms.make(op, &[])?;
     }
-    let both = [TermId(0), TermId(1), TermId(2)];
-    for (op, args, fault) in [
-        (
-            Op::BvAdd,
-            [TermId(0), TermId(1)].as_slice(),
-            MakeFault::Sorts { place: 1 },
-        ),
-        (
-            Op::BvAdd,
-            [TermId(2), TermId(1)].as_slice(),
-            MakeFault::Sorts { place: 0 },
-        ),
-        (
-            Op::BvAdd,
-            [TermId(0), TermId(2)].as_slice(),
-            MakeFault::Sorts { place: 1 },
-        ),
-        (
-            Op::BvNot,
-            [TermId(2)].as_slice(),
-            MakeFault::Sorts { place: 0 },
-        ),
-        (
-            Op::BvNot,
-            [TermId(0), TermId(0)].as_slice(),
-            MakeFault::Arity,
-        ),
-        (Op::BvXor, both.as_slice(), MakeFault::Arity),
-        (Op::BvSub, none, MakeFault::Arity),
-        (narrow, [TermId(0)].as_slice(), MakeFault::Arity),
-        (
-            Op::Input {
-                number: 0,
-                sort: Sort::Bits(0),
-            },
-            none,
-            MakeFault::Index,
-        ),
-        (
-            Op::Input {
-                number: 0,
-                sort: Sort::Bits(65),
-            },
-            none,
-            MakeFault::Index,
-        ),
-        (
-            Op::Bits {
-                width: 8,
-                number: 256,
-            },
-            none,
-            MakeFault::Index,
-        ),
-        (
-            Op::Bits {
-                width: 0,
-                number: 0,
-            },
-            none,
-            MakeFault::Index,
-        ),
-        (
-            Op::Bits {
-                width: 65,
-                number: 0,
-            },
-            none,
-            MakeFault::Index,
-        ),
-    ] {
-        assert_eq!(rt;
-            make(&mut terms, op, args),
-            Some(Err(fault)),
-            "{op:?} over {args:?}"
-        );
-        assert_eq!(rt; terms.len(), 3);
+    for (case, op, args, fault) in REFUSED {
+        assert!(rt; is_refused(&mut terms, op, args, fault, &INPUTS), "{case}");
     }
     Ok(())
 }
 
-/// Whether each input among the nodes up to this one has a value of its sort.
-fn inputs_fit(terms: &Terms, at: TermId, env: &Env) -> bool
-    requires { at.0 < length terms.now.nodes }
-    ensures { IsTrue result → InputsFit env.now.values (term_at terms.now at) }
+/// Whether each input in the table has a value of its sort.
+fn inputs_fit(terms: &Terms, env: &Env) -> bool
+    ensures { IsTrue result → (at : TermId) → at.0 < length terms.now.nodes
+        → InputsFit env.now.values (term_at terms.now at) }
 {
-    let _ = terms.len();
-    for place in 0..at.0 + 1 {
+    for place in 0..terms.len() {
         let (op, _) = terms.node(TermId(place));
         if !input_fits(op, env.values.as_slice()) {
             return false;
@@ -156,54 +166,97 @@ fn has_sort(value: Value, sort: Sort) -> bool
     }
 }
 
+/// Values of width-bit inputs.
+fn env_of(alloc: Global, width: u8, numbers: [u64; 2]) -> Result<Env, AllocError> {
+    let values = vec![in alloc;
+        Value::Bits {
+            width,
+            number: numbers[0]
+        },
+        Value::Bits {
+            width,
+            number: numbers[1]
+        },
+    ]?;
+    Ok(Env {
+        values: Seq::from_vec(values),
+    })
+}
+
+/// A table of the inputs 0 and 1 and then an operation over as many of them as it takes.
+fn table_of(alloc: Global, op: Op, width: u8) -> Result<Terms, MakeFault> {
+    let sort = Sort::Bits(width);
+    let mut terms = Terms::new(alloc, 32);
+    let first = terms.make(input(0, sort), &[])?;
+    let second = terms.make(input(1, sort), &[])?;
+    let args = [first, second];
+    make(&mut terms, op, &args[..op.arity().min(2)]).unwrap_or(Err(MakeFault::Arity))?;
+    Ok(terms)
+}
+
+/// The value of node 2 of three, where the inputs fit.
+fn third_value(terms: &Terms, env: &Env) -> Option<Value> {
+    let mut room = [Value::Bool(false); 3];
+    if terms.len() != 3 || !inputs_fit(terms, env) {
+        return None;
+    }
+    Some(terms.eval(TermId(2), env, &mut room))
+}
+
 #[test]
 fn eval_follows_the_standard(rt: HostRuntime) -> Result<(), Fail> {
     let max = u64::MAX;
-    for (width, op, s, t, number) in [
-        (8, Op::BvNot, 0x00, 0, 0xff),
-        (8, Op::BvNot, 0xff, 0, 0x00),
-        (8, Op::BvNot, 0x5a, 0, 0xa5),
-        (8, Op::BvAnd, 0xf0, 0x3c, 0x30),
-        (8, Op::BvOr, 0xf0, 0x3c, 0xfc),
-        (8, Op::BvXor, 0xf0, 0x3c, 0xcc),
-        (8, Op::BvAdd, 0xff, 0x01, 0x00),
-        (8, Op::BvAdd, 0x80, 0x81, 0x01),
-        (8, Op::BvSub, 0x00, 0x01, 0xff),
-        (8, Op::BvSub, 0x05, 0xff, 0x06),
-        (64, Op::BvNot, 0, 0, max),
-        (64, Op::BvNot, max, 0, 0),
-        (64, Op::BvAnd, max, 1 << 63, 1 << 63),
-        (64, Op::BvOr, 1, 1 << 63, (1 << 63) + 1),
-        (64, Op::BvXor, max, 1, max - 1),
-        (64, Op::BvAdd, max, 1, 0),
-        (64, Op::BvAdd, 1 << 63, 1 << 63, 0),
-        (64, Op::BvSub, 0, 1, max),
-        (64, Op::BvSub, 1, max, 2),
+    for (case, op, width, numbers, number) in [
+        ("not", Op::BvNot, 8, [0x5a, 0], 0xa5),
+        ("and", Op::BvAnd, 8, [0xf0, 0x3c], 0x30),
+        ("or", Op::BvOr, 8, [0xf0, 0x3c], 0xfc),
+        ("xor", Op::BvXor, 8, [0xf0, 0x3c], 0xcc),
+        ("sum", Op::BvAdd, 8, [0x80, 0x81], 0x01),
+        ("difference", Op::BvSub, 8, [0x05, 0xff], 0x06),
+        ("not, 64 bits", Op::BvNot, 64, [0, 0], max),
+        ("sum, 64 bits", Op::BvAdd, 64, [max, 1], 0),
+        ("difference, 64 bits", Op::BvSub, 64, [0, 1], max),
     ] {
-        let none: &[TermId] = &[];
-        let sort = Sort::Bits(width);
-        let mut terms = Terms::new(rt.alloc(), 32);
-        let first = terms.make(Op::Input { number: 0, sort }, none)?;
-        let second = terms.make(Op::Bits { width, number: t }, none)?;
-        let args = [first, second];
-        let made = make(&mut terms, op, &args[..op.arity().min(2)]);
-        let again = make(&mut terms, op, &args[..op.arity().min(2)]);
-        assert_eq!(rt; made, Some(Ok(TermId(2))));
-        assert_eq!(rt; again, made);
-        let values = vec![in rt.alloc(); Value::Bits { width, number: s }]?;
-        let env = Env {
-            values: Seq::from_vec(values),
-        };
-        let mut room = [Value::Bool(false); 3];
-        let at = TermId(2);
-        assert!(rt; at.0 < terms.len() && terms.len() <= 3);
-        assert!(rt; inputs_fit(&terms, at, &env));
-        let value = terms.eval(at, &env, &mut room);
-        assert_eq!(rt;
-            value,
-            Value::Bits { width, number },
-            "{op:?} at {s} and {t}"
+        let terms = table_of(rt.alloc(), op, width)?;
+        let env = env_of(rt.alloc(), width, numbers)?;
+        assert!(rt;
+            third_value(&terms, &env) == Some(Value::Bits { width, number }),
+            "{case}"
         );
     }
+    Ok(())
+}
+
+/// Nodes 0, 2 and 4 are those of the last one's subterms; 1 and 3 stand between and are none.
+fn table_with_others(alloc: Global) -> Result<Terms, MakeFault> {
+    let mut terms = table_of(alloc, Op::BvNot, 8)?;
+    make(&mut terms, Op::BvOr, &[TermId(1), TermId(2)]).unwrap_or(Err(MakeFault::Arity))?;
+    make(&mut terms, Op::BvSub, &[TermId(2), TermId(0)]).unwrap_or(Err(MakeFault::Arity))?;
+    Ok(terms)
+}
+
+/// The room after the nodes' values were set, where it was true in all places.
+fn room_after(terms: &Terms, nodes: &[TermId], env: &Env) -> Option<[Value; 5]>
+    requires { IsTopological terms.now nodes.now }
+{
+    let mut room = [Value::Bool(true); 5];
+    if terms.len() != 5 || !inputs_fit(terms, env) {
+        return None;
+    }
+    terms.eval_nodes(nodes, env, &mut room);
+    Some(room)
+}
+
+#[test]
+fn only_nodes_of_subterms_are_evaluated(rt: HostRuntime) -> Result<(), Fail> {
+    let terms = table_with_others(rt.alloc())?;
+    let env = env_of(rt.alloc(), 8, [0x0f, 0])?;
+    let last = TermId(4);
+    assert!(rt; last.0 < terms.len());
+    let nodes = terms.subterms(rt.alloc(), &[last])?;
+    assert!(rt; nodes.as_slice() == [TermId(0), TermId(2), last].as_slice());
+    let [first, second, third] = [0x0f, 0xf0, 0xe1].map(|number| Value::Bits { width: 8, number });
+    let other = Value::Bool(true);
+    assert!(rt; room_after(&terms, &nodes, &env) == Some([first, other, second, other, third]));
     Ok(())
 }
