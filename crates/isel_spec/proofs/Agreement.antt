@@ -7,8 +7,8 @@ use Rattle.bv_terms.specs.declared.value.Sort.{Sort}
 use Rattle.sexp_read.specs.declared.forest.Item.{Item}
 use Rattle.sexp_read.specs.Tree.{Tree, Trees, Word, Branch, End, Then}
 use Rattle.sexp_read.specs.Forest.{Denotes, DenoteAll, atom_at, children_at}
-use Rattle.isel_spec.specs.declared.subject.Subject.{Subject}
-use Rattle.isel_spec.specs.declared.subject.Subject.TheVariants.{Operation, Goal}
+use Rattle.isel_spec.specs.declared.small_form.subject.Subject.{Subject}
+use Rattle.isel_spec.specs.declared.small_form.subject.Subject.TheVariants.{Operation, Goal}
 use Rattle.isel_spec.specs.Text.{numeral, is_name, each}
 use Rattle.isel_spec.specs.Form.{Binding, binding, where_true, View, tree_view, list_of, word_in, members_in, none_of, one_of, two_of, three_of, four_of, first_of, ◌>>=◌, sort_from, sort_in, arg_in, goal_arg_in, binding_in, pointer_in, cost_in, parts_in, Parts}
 use Rattle.isel_spec.specs.Items.{item_view}

@@ -14,7 +14,7 @@ use Rattle.sexp_read.proofs.FaultLemmas.{trees-unique}
 use Rattle.isel_spec.specs.Fault.{text_fault}
 use Rattle.isel_spec.specs.File.{File}
 use Rattle.isel_spec.specs.Form.{IsFirstFile, file_in, list_of}
-use Rattle.isel_spec.specs.Defined.{HasFew}
+use Rattle.isel_spec.specs.Tables.{HasFew}
 use Rattle.isel_spec.specs.Reading.{Tells}
 use Rattle.isel_spec.proofs.Agreement.{all_agree}
 

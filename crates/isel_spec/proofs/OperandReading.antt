@@ -13,7 +13,7 @@ use Rattle.sexp_read.specs.declared.forest.Item.{Item}
 use Rattle.sexp_read.specs.Tree.{Tree, Trees, End, Then}
 use Rattle.sexp_read.specs.Forest.{Denotes, DenoteAll}
 use Rattle.isel_spec.specs.Form.{Binding, term_of, operands_of}
-use Rattle.isel_spec.specs.Reading.{Extends, IsTermOf}
+use Rattle.isel_spec.specs.Reading.{KeepsTerms, IsTermOf}
 
 -- operands, and more of them
 abbrev pub join : Operands → Operands → Operands
@@ -32,7 +32,7 @@ operands-push : (ts : List Term) (args : List TermId) (at : TermId) → operands
 operands-push ts [] at = refl
 operands-push ts (a ∷ args) at = ap (term.Then (term_in ts a.0)) (operands-push ts args at)
 
-pub operands-kept : (old new : Table) → Extends old new → (args : List TermId) → All (λ a. a.0 < length old.nodes) args → operands (terms_of new) args ≡ operands (terms_of old) args
+pub operands-kept : (old new : Table) → KeepsTerms old new → (args : List TermId) → All (λ a. a.0 < length old.nodes) args → operands (terms_of new) args ≡ operands (terms_of old) args
 operands-kept old new grown args below = operands-below (terms_of new) (terms_of old) (length old.nodes) (λ k h. grown.kept (record { 0 = k }) h) args below
 
 -- the trees of the arguments from a place on, and what their operands complete
@@ -78,7 +78,7 @@ step-join read t None = refl
 step-join read t (Some ts) = ap Some (sym (join-assoc read (term.Then t term.End) ts))
 
 pub operands_more : (scope : List Binding) (bytes : List ℕ) (items : List Item) (arguments : List ℕ) (i : ℕ) (old new : Table) (args : List TermId) (at : TermId) → i < length arguments →
-    HasOperands scope bytes items arguments i old args → Extends old new → at.0 < length new.nodes →
+    HasOperands scope bytes items arguments i old args → KeepsTerms old new → at.0 < length new.nodes →
     ((t : Tree) → Denotes bytes items (get_or arguments i 0) t → IsTermOf new (term_of scope t) at) →
     HasOperands scope bytes items arguments (i + 1) new (args ++ at ∷ [])
 operands_more scope bytes items arguments i old new args at h has grown within read = record {

@@ -13,8 +13,8 @@ use Rattle.bv_terms.specs.Term as term
 use Rattle.bv_terms.specs.Term.{Term, Operands, Apply}
 use Rattle.bv_terms.specs.Sorts.{same_sort, sort_of}
 use Rattle.sexp_read.specs.Tree.{Tree, Trees, Word, Branch, End, Then}
-use Rattle.isel_spec.specs.declared.words.Base.{Base}
-use Rattle.isel_spec.specs.declared.words.Base.TheVariants.{Binary, Hexadecimal}
+use Rattle.isel_spec.specs.declared.small_form.words.Base.{Base}
+use Rattle.isel_spec.specs.declared.small_form.words.Base.TheVariants.{Binary, Hexadecimal}
 use Rattle.isel_spec.specs.File.{stays_in, all_stay_in}
 use Rattle.isel_spec.specs.Text.{literal, constant, number, width}
 use Rattle.isel_spec.specs.Form.{Binding, where_true, input_named, leaf, option_or, operator, well_sorted, term_of, operands_of}

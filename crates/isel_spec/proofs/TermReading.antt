@@ -16,7 +16,7 @@ use Rattle.bv_terms.specs.Table.{Table, IsTable, term_at, term_in, terms_of, ope
 use Rattle.bv_terms.proofs.TableLemmas.{length-terms_of}
 use Rattle.isel_spec.specs.Fault.{first_fault}
 use Rattle.isel_spec.specs.Form.{Binding, input_named, well_sorted}
-use Rattle.isel_spec.specs.Reading.{Tells, Extends}
+use Rattle.isel_spec.specs.Reading.{Tells, KeepsTerms}
 
 -- ---- names in scope
 
@@ -62,11 +62,11 @@ pub refused-other : (o : Option MakeFault) (fault : MakeFault) → (fault ≡ ma
 refused-other None fault other h = absurd (other h)
 refused-other (Some f) fault other h = (f, refl)
 
-pub extends-same : (table : Table) → Extends table table
-extends-same table = record { pointer = refl; longer = omega arith; kept = λ at h. refl }
+pub keeps-same : (table : Table) → KeepsTerms table table
+keeps-same table = record { pointer = refl; longer = omega arith; kept = λ at h. refl }
 
-pub extends-trans : (a b c : Table) → Extends a b → Extends b c → Extends a c
-extends-trans a b c first second = record {
+pub keeps-trans : (a b c : Table) → KeepsTerms a b → KeepsTerms b c → KeepsTerms a c
+keeps-trans a b c first second = record {
   pointer = second.pointer ∙ first.pointer;
   longer = omega (arith, first.longer, second.longer);
   kept = λ at h. second.kept at (omega (arith, first.longer)) ∙ first.kept at h;

@@ -7,8 +7,8 @@ use Rattle.bv_terms.specs.Table.{Table, terms_of, operands}
 use Rattle.sexp_read.specs.declared.forest.Item.{Item}
 use Rattle.sexp_read.specs.Tree.{Tree}
 use Rattle.sexp_read.specs.Forest.{Denotes}
-use Rattle.isel_spec.specs.declared.fault.FirstFault.{FirstFault}
-use Rattle.isel_spec.specs.declared.fault.FirstFault.TheVariants.{Outside, NoMemory}
+use Rattle.isel_spec.specs.declared.small_form.fault.FirstFault.{FirstFault}
+use Rattle.isel_spec.specs.declared.small_form.fault.FirstFault.TheVariants.{Outside, NoMemory}
 use Rattle.isel_spec.specs.Form.{Binding, application_in, well_sorted, term_of}
 use Rattle.isel_spec.specs.Items.{item_view}
 use Rattle.isel_spec.specs.Reading.{Tells}

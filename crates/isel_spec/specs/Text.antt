@@ -4,8 +4,8 @@ use Rattle.std.specs.List.{list_all}
 use Rattle.std.specs.Str.{bytes_eq}
 use Rattle.bv_terms.specs.declared.op.Op.{Op}
 use Rattle.bv_terms.specs.declared.op.Op.TheVariants as op
-use Rattle.isel_spec.specs.declared.words.Base.{Base}
-use Rattle.isel_spec.specs.declared.words.Base.TheVariants.{Binary, Hexadecimal}
+use Rattle.isel_spec.specs.declared.small_form.words.Base.{Base}
+use Rattle.isel_spec.specs.declared.small_form.words.Base.TheVariants.{Binary, Hexadecimal}
 use Rattle.isel_spec.specs.File.{is_between}
 
 abbrev pub is_digit : ℕ → Bool

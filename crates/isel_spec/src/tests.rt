@@ -1,5 +1,5 @@
-use crate::fault::FirstFault;
-use crate::first::read_first;
+use crate::small_form::fault::FirstFault;
+use crate::small_form::first::read_first;
 use std::alloc::{AllocError, Global};
 use std::test::Fail;
 
