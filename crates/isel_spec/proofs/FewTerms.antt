@@ -14,15 +14,14 @@ use Rattle.bv_terms.specs.declared.op.TermId.{TermId}
 use Rattle.bv_terms.specs.Term as term
 use Rattle.bv_terms.specs.Term.{Term, Operands, Apply}
 use Rattle.bv_terms.specs.Table.{Table, Entry, IsTable, terms_of, term_in, operands}
-use Rattle.isel_spec.specs.Form.{StandsIn, StandsAmong, HasFewTerms}
+use Rattle.bv_terms.specs.Subterm.{IsSubterm, IsSubtermAmong}
+use Rattle.bv_terms.proofs.SubtermLemmas.{entry-at, among-argument}
+use Rattle.isel_spec.specs.Form.{HasFewTerms}
 use Rattle.isel_spec.proofs.Scopes.{only_one, false_unless}
-use Rattle.isel_spec.proofs.NodeLemmas.{Found, node-term, among-argument}
+use Rattle.isel_spec.proofs.NodeLemmas.{Found, node-term}
 
 no_entry : Entry
 no_entry = record { op = op.Bits 0 0; args = [] }
-
-entry-at : (table : Table) (k : ℕ) → k < length table.nodes → (e : Entry) × (slice_get table.nodes k ≡ Some e)
-entry-at table k h = (get_or table.nodes k no_entry, slice_get-get_or table.nodes k no_entry h)
 
 -- what an element of a list is doesn't depend on what stands past its end
 same-element : {A : Type 0} (xs : List A) (k : ℕ) (d e : A) → k < length xs → get_or xs k d ≡ get_or xs k e
@@ -38,16 +37,16 @@ map-contains f (y ∷ ys) x h =
 -- ---- each term that stands in the term was found
 
 closed-all : (table : Table) → IsTable table → (at next : ℕ) (found : List ℕ) → Found table at next found → next ≡ length found →
-    (n k : ℕ) → k < n → Contains found k → (s : Term) → StandsIn s (term_in (terms_of table) k) → Contains (map (term_in (terms_of table)) found) s
-unfolding StandsIn
+    (n k : ℕ) → k < n → Contains found k → (s : Term) → IsSubterm s (term_in (terms_of table) k) → Contains (map (term_in (terms_of table)) found) s
+unfolding IsSubterm
 closed-all table is at next found has all zero k h c s stands = absurd (omega (arith, h))
 closed-all table is at next found has all (suc n) k h c s stands =
-    let within = All-contains (λ (m : ℕ). (m < length table.nodes) × StandsIn (term_in (terms_of table) m) (term_in (terms_of table) at)) found k has.sound c in
+    let within = All-contains (λ (m : ℕ). (m < length table.nodes) × IsSubterm (term_in (terms_of table) m) (term_in (terms_of table) at)) found k has.sound c in
     let e = entry-at table k within.0 in
     let node = node-term table is k e.0 e.1 in
     let place : get_or found c.0 0 ≡ k = same-element found c.0 0 k c.1 ∙ c.2 in
     let closed = has.closed c.0 e.0 (omega (arith, c.1, all)) (ap (slice_get table.nodes) place ∙ e.1) in
-    let opened : StandsIn s (Apply e.0.op (operands (terms_of table) e.0.args)) = subst (StandsIn s) node stands in
+    let opened : IsSubterm s (Apply e.0.op (operands (terms_of table) e.0.args)) = subst (IsSubterm s) node stands in
     ⊎_elim
     (λ same. subst (Contains (map (term_in (terms_of table)) found)) (node ∙ sym same) (map-contains (term_in (terms_of table)) found k c))
     (λ among.
@@ -62,7 +61,7 @@ pub few-yes : (table : Table) → IsTable table → (at next : ℕ) (found : Lis
 few-yes table is at next found has all few = (
   map (term_in (terms_of table)) found,
   subst (λ n. n ≤ 256) (sym (length-map found (term_in (terms_of table)))) few,
-  λ t s c stands. closed-all table is at next found has all (suc at) at (omega arith) has.first s (subst (StandsIn s) (sym (only_one (term_in (terms_of table) at) t c)) stands),
+  λ t s c stands. closed-all table is at next found has all (suc at) at (omega arith) has.first s (subst (IsSubterm s) (sym (only_one (term_in (terms_of table) at) t c)) stands),
 )
 
 -- ---- different nodes have different terms
@@ -143,7 +142,7 @@ places-below table ts (k ∷ ks) (p ∷ ps) zip q e = by_first (nat_eq q p) refl
 pub few-no : (table : Table) → IsTable table → (at next : ℕ) (found : List ℕ) → Found table at next found → 256 < length found →
     HasFewTerms (term_in (terms_of table) at ∷ []) → ⊥
 few-no table is at next found has many few =
-    let Below : ℕ → Type 0 = λ k. (k < length table.nodes) × StandsIn (term_in (terms_of table) k) (term_in (terms_of table) at) in
+    let Below : ℕ → Type 0 = λ k. (k < length table.nodes) × IsSubterm (term_in (terms_of table) k) (term_in (terms_of table) at) in
     let listed = recursion_from_All (λ (k : ℕ). Contains few.0 (term_in (terms_of table) k)) found
     (All-weaker Below (λ (k : ℕ). Contains few.0 (term_in (terms_of table) k)) (λ k h. few.2 (term_in (terms_of table) at) (term_in (terms_of table) k) (zero, omega arith, refl) h.1) found has.sound) in
     let within = recursion_from_All (λ (k : ℕ). k < length table.nodes) found (All-weaker Below (λ (k : ℕ). k < length table.nodes) (λ k h. h.0) found has.sound) in

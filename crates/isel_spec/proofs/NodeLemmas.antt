@@ -17,7 +17,9 @@ use Rattle.bv_terms.specs.Term as term
 use Rattle.bv_terms.specs.Term.{Term, Operands, Apply}
 use Rattle.bv_terms.specs.Table.{Table, Entry, IsTable, terms_of, term_in, operands}
 use Rattle.bv_terms.proofs.TableLemmas.{slice_get-terms_of, length-terms_of}
-use Rattle.isel_spec.specs.Form.{StandsIn, StandsAmong, HasFewTerms}
+use Rattle.bv_terms.specs.Subterm.{IsSubterm}
+use Rattle.bv_terms.proofs.SubtermLemmas.{IsSubterm-itself, IsSubterm-through, argument-subterm}
+use Rattle.isel_spec.specs.Form.{HasFewTerms}
 use Rattle.isel_spec.specs.Nodes.{Adds}
 use Rattle.isel_spec.proofs.Scopes.{map-take-more, only_one}
 
@@ -65,49 +67,13 @@ any-contains n (x ∷ xs) e = by_first (nat_eq x n) refl e (any-contains n xs)
     by_first true same e rest = (zero, omega arith, (Decides-eqb x n).0 same)
     by_first false same e rest = Contains-append_right (x ∷ []) xs n (rest e)
 
--- ---- what stands in a term
-
-pub stands-itself : (t : Term) → StandsIn t t
-unfolding StandsIn
-stands-itself (Apply o ts) = inl refl
-
-mutual
-  unfolding StandsIn StandsAmong
-
-  stands-through : (r s t : Term) → StandsIn r s → StandsIn s t → StandsIn r t
-  stands-through r s (Apply o ts) a b = ⊎_elim (λ same. subst (StandsIn r) same a) (λ among. inr (stands-among r s ts a among)) b
-
-  stands-among : (r s : Term) (ts : Operands) → StandsIn r s → StandsAmong s ts → StandsAmong r ts
-  stands-among r s term.End a b = absurd b
-  stands-among r s (term.Then t ts) a b = ⊎_elim (λ here. inl (stands-through r s t a here)) (λ later. inr (stands-among r s ts a later)) b
-
--- an argument stands among the operands
-argument-among : (ts : List Term) (args : List TermId) (n : ℕ) → Contains (numbers args) n → StandsAmong (term_in ts n) (operands ts args)
-unfolding StandsIn StandsAmong
-argument-among ts [] n h = absurd (omega (arith, h.1))
-argument-among ts (a ∷ args) n h =
-    ⊎_elim
-    (λ first. inl (subst (λ k. StandsIn (term_in ts k) (term_in ts a.0)) (only_one a.0 n first) (stands-itself (term_in ts a.0))))
-    (λ later. inr (argument-among ts args n later))
-    (Contains-append_cases (a.0 ∷ []) (numbers args) n h)
-
--- what stands among the operands stands in an argument
-pub among-argument : (ts : List Term) (args : List TermId) (s : Term) → StandsAmong s (operands ts args) → (a : TermId) × Contains args a × StandsIn s (term_in ts a.0)
-unfolding StandsIn StandsAmong
-among-argument ts [] s h = absurd h
-among-argument ts (a ∷ args) s h =
-    ⊎_elim
-    (λ here. (a, (zero, omega arith, refl), here))
-    (λ later. let found = among-argument ts args s later in (found.0, Contains-append_right (a ∷ []) args found.0 found.1, found.2))
-    h
-
 -- ---- the nodes that a node leads to
 
 -- the numbers that were found from a node, the arguments of the first of them among them
 pub record Found (table : Table) (at next : ℕ) (found : List ℕ) : Type 0 where
   pub room : next ≤ length found
   pub first : Contains found at
-  pub sound : All (λ (k : ℕ). (k < length table.nodes) × StandsIn (term_in (terms_of table) k) (term_in (terms_of table) at)) found
+  pub sound : All (λ (k : ℕ). (k < length table.nodes) × IsSubterm (term_in (terms_of table) k) (term_in (terms_of table) at)) found
   pub distinct : IsDistinct nat_eq found
   pub closed : (j : ℕ) (e : Entry) → j < next → slice_get table.nodes (get_or found j 0) ≡ Some e → All (λ (a : TermId). Contains found a.0) e.args
 
@@ -116,7 +82,7 @@ unfolding IsDistinct
 found-first table at h = record {
   room = omega arith;
   first = (zero, omega arith, refl);
-  sound = All-push (λ (k : ℕ). (k < length table.nodes) × StandsIn (term_in (terms_of table) k) (term_in (terms_of table) at)) [] at (All-nil (λ (k : ℕ). (k < length table.nodes) × StandsIn (term_in (terms_of table) k) (term_in (terms_of table) at))) (h, stands-itself (term_in (terms_of table) at));
+  sound = All-push (λ (k : ℕ). (k < length table.nodes) × IsSubterm (term_in (terms_of table) k) (term_in (terms_of table) at)) [] at (All-nil (λ (k : ℕ). (k < length table.nodes) × IsSubterm (term_in (terms_of table) k) (term_in (terms_of table) at))) (h, IsSubterm-itself (term_in (terms_of table) at));
   distinct = (tt, tt);
   closed = λ j e below is. absurd (omega (arith, below));
 }
@@ -131,15 +97,13 @@ number-of (a ∷ args) n h =
     (λ later. let rest = number-of args n later in (rest.0, Contains-append_right (a ∷ []) args rest.0 rest.1, rest.2))
     (Contains-append_cases (a.0 ∷ []) (numbers args) n h)
 
-operand-stands : (table : Table) → IsTable table → (k : ℕ) (e : Entry) → slice_get table.nodes k ≡ Some e → (n : ℕ) → Contains (numbers e.args) n →
-    (n < k) × StandsIn (term_in (terms_of table) n) (term_in (terms_of table) k)
-unfolding StandsIn
+operand-stands : (table : Table) → IsTable table → (k : ℕ) (e : Entry) → slice_get table.nodes k ≡ Some e
+    → (n : ℕ) → Contains (numbers e.args) n
+    → (n < k) × IsSubterm (term_in (terms_of table) n) (term_in (terms_of table) k)
 operand-stands table is k e h n c =
     let arg = number-of e.args n c in
-    let below : arg.0.0 < k = All-contains (λ (a : TermId). a.0 < k) e.args arg.0 (is.earlier k e h) arg.1 in (
-      subst (λ m. m < k) arg.2 below,
-      subst (StandsIn (term_in (terms_of table) n)) (sym (node-term table is k e h)) (inr (argument-among (terms_of table) e.args n c)),
-    )
+    let below : ℕ → Type 0 = λ m. (m < k) × IsSubterm (term_in (terms_of table) m) (term_in (terms_of table) k) in
+    subst below arg.2 (argument-subterm table is (record { 0 = k }) e h arg.0 arg.1)
 
 pub found-more : (table : Table) → IsTable table → (at next : ℕ) (found new : List ℕ) (e : Entry) → next < length found → slice_get table.nodes (get_or found next 0) ≡ Some e →
     Found table at next found → Adds found new e.args → Found table at (next + 1) new
@@ -150,7 +114,7 @@ found-more table is at next found new e h node has adds = record {
       (All-weaker (λ (n : ℕ). Contains (numbers e.args) n) Below
       (λ n c. let stands = operand-stands table is (get_or found next 0) e node n c in
       let here = All-get_or Below found next 0 h has.sound in
-      (omega (arith, stands.0, here.0), stands-through (term_in (terms_of table) n) (term_in (terms_of table) (get_or found next 0)) (term_in (terms_of table) at) stands.1 here.1))
+      (omega (arith, stands.0, here.0), IsSubterm-through (term_in (terms_of table) n) (term_in (terms_of table) (get_or found next 0)) (term_in (terms_of table) at) stands.1 here.1))
       adds.more adds.only));
   distinct = adds.distinct has.distinct;
   closed = λ j f below is_node. ⊎_elim
@@ -167,7 +131,7 @@ found-more table is at next found new e h node has adds = record {
 }
   where
     Below : ℕ → Type 0
-    Below k = (k < length table.nodes) × StandsIn (term_in (terms_of table) k) (term_in (terms_of table) at)
+    Below k = (k < length table.nodes) × IsSubterm (term_in (terms_of table) k) (term_in (terms_of table) at)
 
     below_or : (n j : ℕ) → j < n + 1 → (j < n) ⊎ (j ≡ n)
     below_or n j b = ⊎_elim (λ l. inl l) (λ g. inr (omega (arith, g, b))) (cases_lt j n)

@@ -6,7 +6,7 @@
 --   arg       := (NAME SORT)      garg := (reg NAME SORT)      SORT := (_ BitVec W), W 1 to 64
 --   TERM      := NAME | literal | (OPERATOR TERM*)             well-sorted
 use Rattle.std.specs.Prelude.{◌≡◌, ℕ, ◌+◌, ◌^◌, ◌≤◌, List, [], ◌∷◌, ◌++◌, length, map, sum, Option, Some, None}
-use Rattle.std.specs.Prelude.{Bool, true, false, ◌&&◌, not, nat_le, if◌then◌else◌, codes, Contains, ◌⊎◌, IsTrue}
+use Rattle.std.specs.Prelude.{Bool, true, false, ◌&&◌, not, nat_le, if◌then◌else◌, codes, Contains, IsTrue}
 use Rattle.std.specs.Prelude.{option_and_then, option_map, is_some}
 use Rattle.std.specs.List.{list_all, list_any}
 use Rattle.std.specs.Str.{bytes_eq}
@@ -17,6 +17,7 @@ use Rattle.bv_terms.specs.declared.value.Sort.TheVariants as sort
 use Rattle.bv_terms.specs.Term as term
 use Rattle.bv_terms.specs.Term.{Term, Operands, Apply}
 use Rattle.bv_terms.specs.Sorts.{sort_of, width_of}
+use Rattle.bv_terms.specs.Subterm.{IsSubterm}
 use Rattle.sexp_read.specs.Tree.{Tree, Trees, Word, Branch, End, Then, flatten, depth, depth_limit}
 use Rattle.sexp_read.specs.Token.{is_text_byte, tokens}
 use Rattle.isel_spec.specs.declared.definitions.Kind.TheVariants as kind
@@ -298,19 +299,10 @@ file_in trees = do
   f ← with_items (record { pointer = pointer; ops = []; goals = [] }) first.1
   where_true (is_small f.ops f.goals) f
 
--- a term stands in a term
-unfoldable mutual
-  pub StandsIn : Term → Term → Type 0
-  StandsIn s (Apply o ts) = (s ≡ Apply o ts) ⊎ StandsAmong s ts
-
-  pub StandsAmong : Term → Operands → Type 0
-  StandsAmong s term.End = ⊥
-  StandsAmong s (term.Then t ts) = StandsIn s t ⊎ StandsAmong s ts
-
--- at most 256 different terms stand in the results
+-- the results have at most 256 different subterms
 abbrev pub HasFewTerms : List Term → Type 0
 HasFewTerms results =
-    (ts : List Term) × (length ts ≤ 256) × ((t s : Term) → Contains results t → StandsIn s t → Contains ts s)
+    (ts : List Term) × (length ts ≤ 256) × ((t s : Term) → Contains results t → IsSubterm s t → Contains ts s)
 
 -- the bytes are a file of the small form, namely this one
 pub record IsFirstFile (bytes : List ℕ) (f : File) : Type 0 where

@@ -14,7 +14,7 @@ use sexp_read::Forest;
 use std::alloc::Global;
 
 /// How many bytes a file may have.
-const MOST_BYTES: usize = 1 << 20;
+pub const FILE_LIMIT: usize = 1 << 20;
 
 /// The words and lists of a text.
 fn forest_of(alloc: Global, bytes: &[u8]) -> Result<Forest, FirstFault>
@@ -30,7 +30,7 @@ fn forest_of(alloc: Global, bytes: &[u8]) -> Result<Forest, FirstFault>
 fn is_plain(bytes: &[u8]) -> bool
     ensures { IsTrue result ↔ ((length bytes.now ≤ 2 ^ 20) × (¬ Contains bytes.now 59)) }
 {
-    bytes.len() <= MOST_BYTES && !bytes.contains(&b';')
+    bytes.len() <= FILE_LIMIT && !bytes.contains(&b';')
 }
 
 fn read_plain(alloc: Global, bytes: &[u8]) -> Result<Spec, FirstFault>
