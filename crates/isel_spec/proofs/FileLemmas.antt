@@ -1,5 +1,6 @@
 -- What the tables that were read say of the file.
-use Rattle.std.proofs.Common.{◌≡◌, ℕ, ◌+◌, ◌<◌, ◌≤◌, zero, List, [], ◌∷◌, length, map, sum, refl, ap, sym, ◌∙◌, subst, arith}
+use Rattle.std.proofs.Common.{◌≡◌, ℕ, ◌+◌, ◌<◌, ◌≤◌, zero, List, [], ◌∷◌, length, map, sum, refl, ap, sym, ◌∙◌, subst}
+use Rattle.std.proofs.Common.{arith}
 use Rattle.std.proofs.Common.{Bool, true, false, not, ◌&&◌, ◌||◌, Option, Some, None, option_and_then}
 use Rattle.std.specs.Prelude.{nat_le, Contains, All, ◌==◌}
 use Rattle.std.specs.List.{AllZip, AllByRecursion, list_any, list_all, slice_get}
@@ -50,22 +51,27 @@ any-there : (n : List ℕ) (ns : List (List ℕ)) → list_any (bytes_eq n) ns �
 any-there n [] e = absurd (false≢true e)
 any-there n (m ∷ ns) e = by_first (bytes_eq n m) refl e (any-there n ns)
   where
-    by_first : (b : Bool) → bytes_eq n m ≡ b → (b || list_any (bytes_eq n) ns) ≡ true → (list_any (bytes_eq n) ns ≡ true → Contains ns n) → Contains (m ∷ ns) n
+    by_first : (b : Bool) → bytes_eq n m ≡ b → (b || list_any (bytes_eq n) ns) ≡ true
+        → (list_any (bytes_eq n) ns ≡ true → Contains ns n) → Contains (m ∷ ns) n
     by_first true same e rest = (zero, omega arith, sym ((bytes_eq-Decides n m).0 same))
     by_first false same e rest = Contains-append_right (m ∷ []) ns n (rest e)
 
-pub contains-any : (b : Bool) (n : List ℕ) (ns : List (List ℕ)) → (b ≡ true → Contains ns n) → (Contains ns n → b ≡ true) → not b ≡ not (list_any (bytes_eq n) ns)
+pub contains-any : (b : Bool) (n : List ℕ) (ns : List (List ℕ)) → (b ≡ true → Contains ns n)
+    → (Contains ns n → b ≡ true) → not b ≡ not (list_any (bytes_eq n) ns)
 contains-any true n ns f g = ap not (sym (any_name n ns (f refl)))
-contains-any false n ns f g = ap not (sym (false_unless (list_any (bytes_eq n) ns) (λ e. false≢true (g (any-there n ns e)))))
+contains-any false n ns f g =
+    ap not (sym (false_unless (list_any (bytes_eq n) ns) (λ e. false≢true (g (any-there n ns e)))))
 
-first-new : (tables : Tables) (n : List ℕ) (a : Bool) → (a ≡ true → Contains (map (λ (e : List ℕ × OpDef). e.0) tables.ops) n)
+first-new : (tables : Tables) (n : List ℕ) (a : Bool)
+    → (a ≡ true → Contains (map (λ (e : List ℕ × OpDef). e.0) tables.ops) n)
     → (Contains (map (λ (e : List ℕ × OpDef). e.0) tables.ops) n → a ≡ true)
     → not a ≡ not (list_any (bytes_eq n) (map (λ (o : file.Operation). o.name) (file_so_far tables).ops))
 first-new tables n a f g =
     contains-any a n (map (λ (e : List ℕ × OpDef). e.0) tables.ops) f g
     ∙ ap (λ ns. not (list_any (bytes_eq n) ns)) (sym (names_of_ops tables.terms tables.ops))
 
-second-new : (tables : Tables) (n : List ℕ) (a : Bool) → (a ≡ true → Contains (map (λ (e : List ℕ × GoalDef). e.0) tables.goals) n)
+second-new : (tables : Tables) (n : List ℕ) (a : Bool)
+    → (a ≡ true → Contains (map (λ (e : List ℕ × GoalDef). e.0) tables.goals) n)
     → (Contains (map (λ (e : List ℕ × GoalDef). e.0) tables.goals) n → a ≡ true)
     → not a ≡ not (list_any (bytes_eq n) (map (λ (g : file.Goal). g.name) (file_so_far tables).goals))
 second-new tables n a f g =
@@ -90,7 +96,8 @@ new-if-no_op tables n a b e f g h k =
     let second = not (list_any (bytes_eq n) (map (λ (g : file.Goal). g.name) (file_so_far tables).goals)) in
     second-new tables n b h k ∙ sym (ap (λ x. x && second) (sym (first-new tables n a f g) ∙ ap not e))
 
-not-any : (name : List ℕ) (names : List (List ℕ)) → not (list_any (bytes_eq name) names) ≡ true → Contains names name → ⊥
+not-any : (name : List ℕ) (names : List (List ℕ)) → not (list_any (bytes_eq name) names) ≡ true → Contains names name
+    → ⊥
 not-any name names e has = false≢true (sym (ap not (any_name name names has)) ∙ e)
 
 -- a new name is none of the tables'
@@ -128,22 +135,29 @@ small-one table es g gs is =
 
 -- ---- the items of a reading
 
-denoted-within : (bytes : List ℕ) (items : List Item) (number : ℕ) (t : Tree) → Denotes bytes items number t → number < length items
+denoted-within : (bytes : List ℕ) (items : List Item) (number : ℕ) (t : Tree) → Denotes bytes items number t
+    → number < length items
 denoted-within bytes items number (Word first word) d = slice_get_within items number _ d.0
 denoted-within bytes items number (Branch from to members) d = slice_get_within items number _ d.1
 
-all-within : (bytes : List ℕ) (items : List Item) (numbers : List ℕ) (trees : Trees) → DenoteAll bytes items numbers trees → AllByRecursion (λ number. number < length items) numbers
+all-within : (bytes : List ℕ) (items : List Item) (numbers : List ℕ) (trees : Trees)
+    → DenoteAll bytes items numbers trees → AllByRecursion (λ number. number < length items) numbers
 all-within bytes items [] End d = tt
 all-within bytes items [] (Then t ts) d = absurd d
 all-within bytes items (n ∷ ns) End d = absurd d
 all-within bytes items (n ∷ ns) (Then t ts) d = (denoted-within bytes items n t d.0, all-within bytes items ns ts d.1)
 
 -- the outermost items of a reading are items of it
-pub top-within : (bytes : List ℕ) (forest : Forest) → IsReading bytes forest → All (λ (number : ℕ). number < length forest.items) forest.outermost
-top-within bytes forest r = All-from_recursion (λ (number : ℕ). number < length forest.items) forest.outermost (all-within bytes forest.items forest.outermost r.0 (forest-denotes bytes r.0 forest r.1))
+pub top-within : (bytes : List ℕ) (forest : Forest) → IsReading bytes forest
+    → All (λ (number : ℕ). number < length forest.items) forest.outermost
+top-within bytes forest r =
+    All-from_recursion (λ (number : ℕ). number < length forest.items) forest.outermost
+    (all-within bytes forest.items forest.outermost r.0 (forest-denotes bytes r.0 forest r.1))
 
-pub top-trees : (bytes : List ℕ) (forest : Forest) → IsReading bytes forest → (trees : List Tree) × AllZip (Denotes bytes forest.items) forest.outermost trees
-top-trees bytes forest r = (list_of r.0, all_agree bytes forest.items forest.outermost r.0 (forest-denotes bytes r.0 forest r.1))
+pub top-trees : (bytes : List ℕ) (forest : Forest) → IsReading bytes forest
+    → (trees : List Tree) × AllZip (Denotes bytes forest.items) forest.outermost trees
+top-trees bytes forest r =
+    (list_of r.0, all_agree bytes forest.items forest.outermost r.0 (forest-denotes bytes r.0 forest r.1))
 
 pub rest-trees : (bytes : List ℕ) (forest : Forest) (head : ℕ) (rest : List ℕ) → IsReading bytes forest
     → forest.outermost ≡ head ∷ rest → (trees : List Tree) × AllZip (Denotes bytes forest.items) rest trees
@@ -184,7 +198,8 @@ sound-tables pointer tables same sound small =
     five (pointer == tables.terms.pointer) (nat_le (length tables.ops) 64) (nat_le (length tables.goals) 256)
     (list_all (is_sound_op tables.terms) tables.ops) (list_all (is_sound_goal tables.terms) tables.goals)
     ((Decides-eqb pointer tables.terms.pointer).1 (sym same))
-    (le-true (length tables.ops) 64 (omega (arith, limits.0))) (le-true (length tables.goals) 256 (omega (arith, limits.1)))
+    (le-true (length tables.ops) 64 (omega (arith, limits.0)))
+    (le-true (length tables.goals) 256 (omega (arith, limits.1)))
     sound.ops sound.goals
 
 -- the file of no definitions
@@ -203,14 +218,15 @@ by-pointer : (bytes : List ℕ) (items : List Item) (head : ℕ) (rest : List �
     → AllZip (Denotes bytes items) (head ∷ rest) trees
     → (others : List Tree) × AllZip (Denotes bytes items) rest others
     × (file_in trees ≡ option_and_then (λ p. option_and_then if_small (with_items (no_file p) others))
-        (pointer_in (item_view bytes items) head))
+    (pointer_in (item_view bytes items) head))
 by-pointer bytes items head rest [] d = absurd d
 by-pointer bytes items head rest (t ∷ ts) d =
     let next : Option ℕ → Option File = option_and_then (λ p. option_and_then if_small (with_items (no_file p) ts)) in
     (ts, d.1, ap next (sym (pointer_agrees bytes items head t d.0)))
 
 pub no-pointer : (bytes : List ℕ) (items : List Item) (head : ℕ) (rest : List ℕ)
-    → pointer_in (item_view bytes items) head ≡ None → (trees : List Tree) → AllZip (Denotes bytes items) (head ∷ rest) trees
+    → pointer_in (item_view bytes items) head ≡ None → (trees : List Tree)
+    → AllZip (Denotes bytes items) (head ∷ rest) trees
     → file_in trees ≡ None
 no-pointer bytes items head rest none trees d =
     let by = by-pointer bytes items head rest trees d in
@@ -218,7 +234,8 @@ no-pointer bytes items head rest none trees d =
     by.2 ∙ ap next none
 
 by-items : (bytes : List ℕ) (items : List Item) (head : ℕ) (rest : List ℕ) (pointer : ℕ)
-    → pointer_in (item_view bytes items) head ≡ Some pointer → (trees : List Tree) → AllZip (Denotes bytes items) (head ∷ rest) trees
+    → pointer_in (item_view bytes items) head ≡ Some pointer → (trees : List Tree)
+    → AllZip (Denotes bytes items) (head ∷ rest) trees
     → (others : List Tree) × AllZip (Denotes bytes items) rest others
     × (file_in trees ≡ option_and_then if_small (with_items (no_file pointer) others))
 by-items bytes items head rest pointer is trees d =
@@ -244,7 +261,8 @@ items-refused bytes items head rest pointer is refused trees f d e few =
 pub file-made : (bytes : List ℕ) (items : List Item) (head : ℕ) (rest : List ℕ) (pointer : ℕ) (old new : Tables)
     → pointer_in (item_view bytes items) head ≡ Some pointer → file_so_far old ≡ no_file pointer
     → IsAdded (AllZip (Denotes bytes items) rest) (with_items (file_so_far old)) old new
-    → (trees : List Tree) → AllZip (Denotes bytes items) (head ∷ rest) trees → file_in trees ≡ if_small (file_so_far new)
+    → (trees : List Tree) → AllZip (Denotes bytes items) (head ∷ rest) trees
+    → file_in trees ≡ if_small (file_so_far new)
 file-made bytes items head rest pointer old new is empty added trees d =
     let by = by-items bytes items head rest pointer is trees d in
     by.2 ∙ ap (λ f. option_and_then if_small (with_items f by.0)) (sym empty)
@@ -257,7 +275,8 @@ no-items bytes items [] n (t ∷ ts) f d e few = absurd d
 no-items bytes items (k ∷ ks) n trees f d e few = absurd (omega (arith, n))
 
 -- what was read of the items after the first one, which gives a pointer's width
-pub record HasTables (bytes : List ℕ) (items : List Item) (head : ℕ) (rest : List ℕ) (pointer : ℕ) (new : Tables) : Type 0 where
+pub record HasTables (bytes : List ℕ) (items : List Item) (head : ℕ) (rest : List ℕ) (pointer : ℕ)
+    (new : Tables) : Type 0 where
   pub pointer_is : pointer_in (item_view bytes items) head ≡ Some pointer
   pub old : Tables
   pub empty : old ≡ record { terms = record { pointer = pointer; nodes = [] }; ops = []; goals = [] }
@@ -277,7 +296,8 @@ pub small-refused : (bytes : List ℕ) (items : List Item) (head : ℕ) (rest : 
     → is_small (map (operation new.terms) new.ops) (map (goal new.terms) new.goals) ≡ false
     → IsRefused (AllZip (Denotes bytes items) (head ∷ rest)) file_in
 small-refused bytes items head rest pointer new h small trees f d e few =
-    let made = file-made bytes items head rest pointer h.old new h.pointer_is (ap file_so_far h.empty) h.added trees d in
+    let made = file-made bytes items head rest pointer h.old new h.pointer_is (ap file_so_far h.empty) h.added trees d
+    in
     none-some f (sym (made ∙ ap (λ b. where_true b (file_so_far new)) small) ∙ e)
 
 pub small-accepted : (bytes : List ℕ) (items : List Item) (head : ℕ) (rest : List ℕ) (pointer : ℕ) (new : Tables)
@@ -290,7 +310,8 @@ pub small-accepted : (bytes : List ℕ) (items : List Item) (head : ℕ) (rest :
       goals = map (goal new.terms) new.goals;
     })
 small-accepted bytes items head rest pointer new h small trees d =
-    let made = file-made bytes items head rest pointer h.old new h.pointer_is (ap file_so_far h.empty) h.added trees d in
+    let made = file-made bytes items head rest pointer h.old new h.pointer_is (ap file_so_far h.empty) h.added trees d
+    in
     let with_pointer : ℕ → File = λ p. record {
       pointer = p;
       ops = map (operation new.terms) new.ops;

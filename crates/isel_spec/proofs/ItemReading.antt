@@ -1,5 +1,6 @@
 -- Items are read one by one, and each is the last of the file so far.
-use Rattle.std.proofs.Common.{◌≡◌, ℕ, ◌+◌, ◌<◌, ◌≤◌, List, [], ◌∷◌, length, get_or, drop, refl, ap, sym, ◌∙◌, subst, arith}
+use Rattle.std.proofs.Common.{◌≡◌, ℕ, ◌+◌, ◌<◌, ◌≤◌, List, [], ◌∷◌, length, get_or, drop, refl, ap, sym, ◌∙◌, subst}
+use Rattle.std.proofs.Common.{arith}
 use Rattle.std.proofs.Common.{add-one, Option, Some, None, option_and_then}
 use Rattle.std.specs.List.{AllZip}
 use Rattle.std.proofs.Math.Seq.{drop-cons}
@@ -15,7 +16,8 @@ use Rattle.isel_spec.specs.Tables.{file_so_far, HasFew, IsSoundSoFar, IsAdded, I
 use Rattle.isel_spec.proofs.MemberSteps.{items-few}
 
 -- the trees that are left, which make of the file so far what all trees make of the first one
-pub record IsLeft (bytes : List ℕ) (items : List Item) (left : List ℕ) (start now : File) (trees : List Tree) : Type 0 where
+pub record IsLeft (bytes : List ℕ) (items : List Item) (left : List ℕ) (start now : File)
+    (trees : List Tree) : Type 0 where
   pub rest : List Tree
   pub denoted : AllZip (Denotes bytes items) left rest
   pub whole : with_items start trees ≡ with_items now rest
@@ -38,24 +40,29 @@ items_none bytes items numbers old sound = record {
 }
 
 -- the first of the trees that are left
-pub record IsNextTree (bytes : List ℕ) (items : List Item) (number : ℕ) (left : List ℕ) (trees : List Tree) : Type 0 where
+pub record IsNextTree (bytes : List ℕ) (items : List Item) (number : ℕ) (left : List ℕ)
+    (trees : List Tree) : Type 0 where
   pub tree : Tree
   pub others : List Tree
   pub is : trees ≡ tree ∷ others
   pub denoted : Denotes bytes items number tree
   pub later : AllZip (Denotes bytes items) left others
 
-next-of : (bytes : List ℕ) (items : List Item) (number : ℕ) (numbers : List ℕ) (trees : List Tree) → AllZip (Denotes bytes items) (number ∷ numbers) trees → IsNextTree bytes items number numbers trees
+next-of : (bytes : List ℕ) (items : List Item) (number : ℕ) (numbers : List ℕ) (trees : List Tree)
+    → AllZip (Denotes bytes items) (number ∷ numbers) trees → IsNextTree bytes items number numbers trees
 next-of bytes items number numbers [] d = absurd d
 next-of bytes items number numbers (t ∷ ts) d = record { tree = t; others = ts; is = refl; denoted = d.0; later = d.1 }
 
-pub next-at : (bytes : List ℕ) (items : List Item) (numbers : List ℕ) (i : ℕ) (trees : List Tree) → i < length numbers → AllZip (Denotes bytes items) (drop i numbers) trees →
+pub next-at : (bytes : List ℕ) (items : List Item) (numbers : List ℕ) (i : ℕ) (trees : List Tree) → i < length numbers
+    → AllZip (Denotes bytes items) (drop i numbers) trees →
     IsNextTree bytes items (get_or numbers i 0) (drop (i + 1) numbers) trees
 next-at bytes items numbers i trees h d =
     let e : drop i numbers ≡ get_or numbers i 0 ∷ drop (i + 1) numbers = rw (drop-cons numbers i 0, ← add-one) refl in
-    next-of bytes items (get_or numbers i 0) (drop (i + 1) numbers) trees (subst (λ ns. AllZip (Denotes bytes items) ns trees) e d)
+    next-of bytes items (get_or numbers i 0) (drop (i + 1) numbers) trees
+    (subst (λ ns. AllZip (Denotes bytes items) ns trees) e d)
 
-pub items_more : (bytes : List ℕ) (items : List Item) (numbers : List ℕ) (i : ℕ) (old now new : Tables) → i < length numbers
+pub items_more : (bytes : List ℕ) (items : List Item) (numbers : List ℕ) (i : ℕ) (old now new : Tables)
+    → i < length numbers
     → HasItems bytes items numbers i old now
     → IsAdded (Denotes bytes items (get_or numbers i 0)) (with_item (file_so_far now)) now new
     → HasItems bytes items numbers (i + 1) old new

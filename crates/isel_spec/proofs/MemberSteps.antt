@@ -24,7 +24,8 @@ use Rattle.isel_spec.specs.declared.small_form.tables.Tables.{Tables}
 use Rattle.isel_spec.specs.File as file
 use Rattle.isel_spec.specs.File.{File, operation, goal, stays_in, is_sound_op, is_sound_goal}
 use Rattle.isel_spec.specs.Text.{each}
-use Rattle.isel_spec.specs.Form.{Binding, Parts, parts_in, binding_in, scope_of, tree_view, body_in, term_of, where_true}
+use Rattle.isel_spec.specs.Form.{Binding, Parts, parts_in, binding_in, scope_of, tree_view, body_in, term_of}
+use Rattle.isel_spec.specs.Form.{where_true}
 use Rattle.isel_spec.specs.Form.{headed_in, subject_of, first_of, members_in, word_in, is_new, HasFewTerms}
 use Rattle.isel_spec.specs.Form.{with_operation, with_goal, with_members, with_item, with_items}
 use Rattle.isel_spec.specs.Items.{item_view}
@@ -55,11 +56,13 @@ where_some false x y e = absurd (none-some y e)
 -- what is said of them, by the scope that is read off the items
 body-by : (subject : Subject) (bytes : List ℕ) (items : List Item) (args : List ℕ) (trees : List Tree) (tree : Tree)
     → AllZip (Denotes bytes items) args trees
-    → body_in subject trees tree ≡ option_and_then (λ scope. option_and_then (λ t. Some (scope, t)) (term_of scope tree))
-        (option_and_then scope_of (each (binding_in subject (item_view bytes items)) args))
+    → body_in subject trees tree
+    ≡ option_and_then (λ scope. option_and_then (λ t. Some (scope, t)) (term_of scope tree))
+    (option_and_then scope_of (each (binding_in subject (item_view bytes items)) args))
 body-by subject bytes items args trees tree d =
     let said : Option (List Binding) → Option (List Binding × Term) = λ o.
-        option_and_then (λ scope. option_and_then (λ t. Some (scope, t)) (term_of scope tree)) (option_and_then scope_of o) in
+    option_and_then (λ scope. option_and_then (λ t. Some (scope, t)) (term_of scope tree))
+    (option_and_then scope_of o) in
     ap said (sym (bindings_agree subject bytes items args trees d))
 
 -- no arguments and no result, or one with too many different terms
@@ -73,7 +76,7 @@ pub body-no_scope : (subject : Subject) (bytes : List ℕ) (items : List Item) (
     → NoBody subject bytes items args item
 body-no_scope subject bytes items args item none trees tree body d e is few =
     let next : Option (List Binding) → Option (List Binding × Term) = λ o.
-        option_and_then (λ scope. option_and_then (λ t. Some (scope, t)) (term_of scope tree)) o in
+    option_and_then (λ scope. option_and_then (λ t. Some (scope, t)) (term_of scope tree)) o in
     none-some body (sym (body-by subject bytes items args trees tree d ∙ ap next none) ∙ is)
 
 body-with : (subject : Subject) (bytes : List ℕ) (items : List Item) (args : List ℕ) (scope : List Binding)
@@ -82,10 +85,11 @@ body-with : (subject : Subject) (bytes : List ℕ) (items : List Item) (args : L
     → body_in subject trees tree ≡ option_and_then (λ t. Some (scope, t)) (term_of scope tree)
 body-with subject bytes items args scope some trees tree d =
     let next : Option (List Binding) → Option (List Binding × Term) = λ o.
-        option_and_then (λ scope. option_and_then (λ t. Some (scope, t)) (term_of scope tree)) o in
+    option_and_then (λ scope. option_and_then (λ t. Some (scope, t)) (term_of scope tree)) o in
     body-by subject bytes items args trees tree d ∙ ap next some
 
-pub body-no_term : (subject : Subject) (bytes : List ℕ) (items : List Item) (args : List ℕ) (item : ℕ) (scope : List Binding)
+pub body-no_term : (subject : Subject) (bytes : List ℕ) (items : List Item) (args : List ℕ) (item : ℕ)
+    (scope : List Binding)
     → option_and_then scope_of (each (binding_in subject (item_view bytes items)) args) ≡ Some scope
     → ((t : Tree) → Denotes bytes items item t → term_of scope t ≡ None) → NoBody subject bytes items args item
 body-no_term subject bytes items args item scope some none trees tree body d e is few =
@@ -93,7 +97,8 @@ body-no_term subject bytes items args item scope some none trees tree body d e i
     let next : Option Term → Option (List Binding × Term) = option_and_then (λ t. Some (scope, t)) in
     none-some body (sym (said ∙ ap next (none tree e)) ∙ is)
 
-pub body-many : (subject : Subject) (bytes : List ℕ) (items : List Item) (args : List ℕ) (item : ℕ) (scope : List Binding)
+pub body-many : (subject : Subject) (bytes : List ℕ) (items : List Item) (args : List ℕ) (item : ℕ)
+    (scope : List Binding)
     (table : Table) (at : TermId)
     → option_and_then scope_of (each (binding_in subject (item_view bytes items)) args) ≡ Some scope
     → ((t : Tree) → Denotes bytes items item t → IsTermOf table (term_of scope t) at)
@@ -104,7 +109,8 @@ body-many subject bytes items args item scope table at some terms many trees tre
     let same = same_Some (scope, term_at table at) body (sym (said ∙ ap next (terms tree e).term) ∙ is) in
     many (subst (λ (b : List Binding × Term). HasFewTerms (b.1 ∷ [])) (sym same) few)
 
-pub body-some : (subject : Subject) (bytes : List ℕ) (items : List Item) (args : List ℕ) (item : ℕ) (scope : List Binding)
+pub body-some : (subject : Subject) (bytes : List ℕ) (items : List Item) (args : List ℕ) (item : ℕ)
+    (scope : List Binding)
     (table : Table) (at : TermId)
     → option_and_then scope_of (each (binding_in subject (item_view bytes items)) args) ≡ Some scope
     → ((t : Tree) → Denotes bytes items item t → IsTermOf table (term_of scope t) at)
@@ -123,12 +129,14 @@ body-some subject bytes items args item scope table at some terms few trees tree
 -- ---- the parts of a definition
 
 -- the parts that the trees have
-record HasParts (subject : Subject) (bytes : List ℕ) (items : List Item) (read : Parts ℕ) (trees : List Tree) : Type 0 where
+record HasParts (subject : Subject) (bytes : List ℕ) (items : List Item) (read : Parts ℕ)
+    (trees : List Tree) : Type 0 where
   said : Parts Tree
   stands : StandsFor bytes items read said
   is : parts_in subject tree_view trees ≡ Some said
 
-parts-of : (subject : Subject) (bytes : List ℕ) (items : List Item) (numbers : List ℕ) (read : Parts ℕ) (trees : List Tree)
+parts-of : (subject : Subject) (bytes : List ℕ) (items : List Item) (numbers : List ℕ) (read : Parts ℕ)
+    (trees : List Tree)
     → AllZip (Denotes bytes items) numbers trees → parts_in subject (item_view bytes items) numbers ≡ Some read
     → HasParts subject bytes items read trees
 parts-of subject bytes items numbers read trees d e =
@@ -170,7 +178,7 @@ unfolding with_body
 members-are Operation f trees =
     bind-last (parts_in Operation tree_view trees) (λ (p : Parts Tree). body_in Operation p.args p.result)
     (λ p body. let o : file.Operation =
-        record { name = p.name; args = map (λ b. b.1) body.0; attrs = []; results = body.1 ∷ [] } in o)
+    record { name = p.name; args = map (λ b. b.1) body.0; attrs = []; results = body.1 ∷ [] } in o)
     (with_operation f)
 members-are Goal f trees =
     bind-last (parts_in Goal tree_view trees) (λ (p : Parts Tree). body_in Goal p.args p.result)
@@ -204,7 +212,8 @@ unfolding with_body
 not-new Operation f parts body e = rw e refl
 not-new Goal f parts body e = rw e refl
 
-pub members-twice : (subject : Subject) (bytes : List ℕ) (items : List Item) (numbers : List ℕ) (read : Parts ℕ) (f : File)
+pub members-twice : (subject : Subject) (bytes : List ℕ) (items : List Item) (numbers : List ℕ) (read : Parts ℕ)
+    (f : File)
     → parts_in subject (item_view bytes items) numbers ≡ Some read → is_new f read.name ≡ false
     → IsRefused (AllZip (Denotes bytes items) numbers) (with_members subject f)
 members-twice subject bytes items numbers read f e twice trees g d is few =
@@ -232,7 +241,8 @@ with_body-few Goal f g parts body e few =
     } in
     few-without_goal f k (subst HasFew (sym (where_some (is_new f parts.name) (and_goal f k) g e)) few)
 
-pub members-no_body : (subject : Subject) (bytes : List ℕ) (items : List Item) (numbers : List ℕ) (read : Parts ℕ) (f : File)
+pub members-no_body : (subject : Subject) (bytes : List ℕ) (items : List Item) (numbers : List ℕ) (read : Parts ℕ)
+    (f : File)
     → parts_in subject (item_view bytes items) numbers ≡ Some read → NoBody subject bytes items read.args read.result
     → IsRefused (AllZip (Denotes bytes items) numbers) (with_members subject f)
 members-no_body subject bytes items numbers read f e none trees g d is few =
@@ -365,11 +375,13 @@ added-goal bytes items numbers read old new scope at some h sound goals ops =
           let f = file_so_far old in
           let g : List ℕ → ℕ → List Kind → List Sort → file.Goal = λ name cost kinds sorts.
           record { name = name; kinds = kinds; args = sorts; cost = cost; results = term_at table at ∷ [] } in
-          let said = g b.0.said.name b.0.said.cost (map (λ (b : Binding). kind.Reg) scope) (map (λ (b : Binding). b.1) scope) in
+          let said = g b.0.said.name b.0.said.cost (map (λ (b : Binding). kind.Reg) scope)
+          (map (λ (b : Binding). b.1) scope) in
           members-by Goal bytes items read f trees b.0
           ∙ ap (option_and_then (with_body Goal f b.0.said)) b.1.is
           ∙ new-said f read.name b.0.said.name (and_goal f said) b.0.stands.name h.new
-          ∙ (λ i. Some (and_goal f (g (sym b.0.stands.name i) (sym b.0.stands.cost i) (kinds_are scope i) (args_are scope i))))
+          ∙ (λ i. Some (and_goal f
+          (g (sym b.0.stands.name i) (sym b.0.stands.cost i) (kinds_are scope i) (args_are scope i))))
           ∙ ap Some (sym stand.is);
     }
 
@@ -382,16 +394,20 @@ SameHead bytes items p q = (p.0 ≡ q.0) × AllZip (Denotes bytes items) p.1 q.1
 headed_agrees : (bytes : List ℕ) (items : List Item) (number : ℕ) (tree : Tree) → Denotes bytes items number tree →
     Agree (SameHead bytes items) (headed_in (item_view bytes items) number) (headed_in tree_view tree)
 headed_agrees bytes items number tree d =
-    bind_related (AllZip (Denotes bytes items)) (SameHead bytes items) (children_at items number) (members_in tree) _ _ (members_agree bytes items number tree d)
-    (λ ns ts ds. bind_related (λ p q. Denotes bytes items p.0 q.0 × AllZip (Denotes bytes items) p.1 q.1) (SameHead bytes items) (first_of ns) (first_of ts) _ _
+    bind_related (AllZip (Denotes bytes items)) (SameHead bytes items) (children_at items number) (members_in tree) _ _
+    (members_agree bytes items number tree d)
+    (λ ns ts ds. bind_related (λ p q. Denotes bytes items p.0 q.0 × AllZip (Denotes bytes items) p.1 q.1)
+    (SameHead bytes items) (first_of ns) (first_of ts) _ _
     (first_agrees (Denotes bytes items) ns ts ds)
-    (λ p q e. bind_same (SameHead bytes items) (atom_at bytes items p.0) (word_in q.0) _ _ (words_agree bytes items p.0 q.0 e.0)
+    (λ p q e. bind_same (SameHead bytes items) (atom_at bytes items p.0) (word_in q.0) _ _
+    (words_agree bytes items p.0 q.0 e.0)
     (λ head. bind_same (SameHead bytes items) (subject_of head) (subject_of head) _ _ refl (λ subject. (refl, e.1)))))
 
 pub item-none : (bytes : List ℕ) (items : List Item) (number : ℕ) (f : File)
     → headed_in (item_view bytes items) number ≡ None → IsRefused (Denotes bytes items number) (with_item f)
 item-none bytes items number f e t g d is few =
-    let agree = subst (λ o. Agree (SameHead bytes items) o (headed_in tree_view t)) e (headed_agrees bytes items number t d) in
+    let agree = subst (λ o. Agree (SameHead bytes items) o (headed_in tree_view t)) e
+    (headed_agrees bytes items number t d) in
     let none = agree-none (SameHead bytes items) (headed_in tree_view t) agree in
     let next : Option (Subject × List Tree) → Option File = option_and_then (λ h. with_members h.0 f h.1) in
     none-some g (sym (ap next none) ∙ is)
@@ -401,12 +417,14 @@ pub item-some : (bytes : List ℕ) (items : List Item) (number : ℕ) (subject :
     → headed_in (item_view bytes items) number ≡ Some (subject, rest) → (t : Tree) → Denotes bytes items number t
     → (trees : List Tree) × AllZip (Denotes bytes items) rest trees × (with_item f t ≡ with_members subject f trees)
 item-some bytes items number subject rest f e t d =
-    let agree = subst (λ o. Agree (SameHead bytes items) o (headed_in tree_view t)) e (headed_agrees bytes items number t d) in
+    let agree = subst (λ o. Agree (SameHead bytes items) o (headed_in tree_view t)) e
+    (headed_agrees bytes items number t d) in
     let some = agree-some (SameHead bytes items) (subject, rest) (headed_in tree_view t) agree in
     let next : Option (Subject × List Tree) → Option File = option_and_then (λ h. with_members h.0 f h.1) in
     (some.0.1, some.1.1, ap next some.2 ∙ ap (λ s. with_members s f some.0.1) (sym some.1.0))
 
-pub item-added : (bytes : List ℕ) (items : List Item) (number : ℕ) (subject : Subject) (rest : List ℕ) (old new : Tables)
+pub item-added : (bytes : List ℕ) (items : List Item) (number : ℕ) (subject : Subject) (rest : List ℕ)
+    (old new : Tables)
     → headed_in (item_view bytes items) number ≡ Some (subject, rest)
     → IsAdded (AllZip (Denotes bytes items) rest) (with_members subject (file_so_far old)) old new
     → IsAdded (Denotes bytes items number) (with_item (file_so_far old)) old new
@@ -421,16 +439,19 @@ item-added bytes items number subject rest old new e added = record {
 
 pub item-refused : (bytes : List ℕ) (items : List Item) (number : ℕ) (subject : Subject) (rest : List ℕ) (f : File)
     → headed_in (item_view bytes items) number ≡ Some (subject, rest)
-    → IsRefused (AllZip (Denotes bytes items) rest) (with_members subject f) → IsRefused (Denotes bytes items number) (with_item f)
+    → IsRefused (AllZip (Denotes bytes items) rest) (with_members subject f)
+    → IsRefused (Denotes bytes items number) (with_item f)
 item-refused bytes items number subject rest f e refused t g d is few =
     let some = item-some bytes items number subject rest f e t d in
     refused some.0 g some.1 (sym some.2 ∙ is) few
 
 -- ---- a file with few terms had few before
 
-members-few : (subject : Subject) (f g : File) (trees : List Tree) → with_members subject f trees ≡ Some g → HasFew g → HasFew f
+members-few : (subject : Subject) (f g : File) (trees : List Tree) → with_members subject f trees ≡ Some g → HasFew g
+    → HasFew f
 members-few subject f g trees e few =
-    option_and_then_some (from_parts subject f) (parts_in subject tree_view trees) g (sym (members-are subject f trees) ∙ e)
+    option_and_then_some (from_parts subject f) (parts_in subject tree_view trees) g (sym (members-are subject f trees)
+    ∙ e)
     (λ parts _ made. option_and_then_some (with_body subject f parts) (body_in subject parts.args parts.result) g made
     (λ body _ last. (with_body-few subject f g parts body last few).0))
 

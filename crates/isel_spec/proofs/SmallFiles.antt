@@ -1,5 +1,6 @@
 -- What a file of the small form has: plain operations, and one goal over a few bits of bit-vectors.
-use Rattle.std.proofs.Common.{◌≡◌, ℕ, ◌≤◌, Bool, true, false, ◌&&◌, List, [], ◌∷◌, ◌++◌, length, map, sum, refl, sym, subst}
+use Rattle.std.proofs.Common.{◌≡◌, ℕ, ◌≤◌, Bool, true, false, ◌&&◌, List, [], ◌∷◌, ◌++◌, length, map, sum, refl, sym}
+use Rattle.std.proofs.Common.{subst}
 use Rattle.std.proofs.Common.{Option, Some, None, option_map, option_and_then, nat_le, codes, if◌then◌else◌}
 use Rattle.std.specs.Prelude.{Contains}
 use Rattle.std.specs.List.{AllByRecursion}
@@ -15,7 +16,8 @@ use Rattle.isel_spec.specs.declared.small_form.subject.Subject.{Subject}
 use Rattle.isel_spec.specs.declared.small_form.subject.Subject.TheVariants as subject
 use Rattle.isel_spec.specs.File.{File, Operation, Goal}
 use Rattle.isel_spec.specs.Text.{numeral, is_name, each}
-use Rattle.isel_spec.specs.Form.{IsFirstFile, Binding, where_true, is_small, is_new, sort_from, sort_in, binding, arg_in}
+use Rattle.isel_spec.specs.Form.{IsFirstFile, Binding, where_true, is_small, is_new, sort_from, sort_in, binding}
+use Rattle.isel_spec.specs.Form.{arg_in}
 use Rattle.isel_spec.specs.Form.{goal_arg_in, binding_in, scope_of, list_of, tree_view, first_of, two_of, three_of}
 use Rattle.isel_spec.specs.Form.{pointer_in, members_in, word_in, parts_in, differ, term_of, headed_in, body_in}
 use Rattle.isel_spec.specs.Form.{operation_in, goal_in, with_operation, with_goal, with_members, with_item, with_items}
@@ -30,7 +32,8 @@ where_some : {A : Type 0} (b : Bool) (x y : A) → where_true b x ≡ Some y →
 where_some true x y h = (refl, cc)
 where_some false x y h = cc
 
-map_some : {A B : Type 0} (f : A → B) (o : Option A) (y : B) → option_map f o ≡ Some y → (x : A) × (o ≡ Some x) × (f x ≡ y)
+map_some : {A B : Type 0} (f : A → B) (o : Option A) (y : B) → option_map f o ≡ Some y
+    → (x : A) × (o ≡ Some x) × (f x ≡ y)
 map_some f None y h = cc
 map_some f (Some x) y h = (x, refl, cc)
 
@@ -153,11 +156,13 @@ record IsPlainFile (f : File) : Type 0 where
   ops : AllByRecursion IsPlainOp f.ops
   goals : AllByRecursion IsPlainGoal f.goals
 
-all-push : {A : Type 0} (P : A → Type 0) (xs : List A) (x : A) → AllByRecursion P xs → P x → AllByRecursion P (xs ++ x ∷ [])
+all-push : {A : Type 0} (P : A → Type 0) (xs : List A) (x : A) → AllByRecursion P xs → P x
+    → AllByRecursion P (xs ++ x ∷ [])
 all-push P [] x h p = (p, tt)
 all-push P (y ∷ ys) x h p = (h.0, all-push P ys x h.1 p)
 
-members_plain : (s : Subject) (f g : File) (trees : List Tree) → with_members s f trees ≡ Some g → IsPlainFile f → IsPlainFile g
+members_plain : (s : Subject) (f g : File) (trees : List Tree) → with_members s f trees ≡ Some g → IsPlainFile f
+    → IsPlainFile g
 members_plain subject.Operation f g trees h plain =
     let o = bind_some (operation_in trees) (with_operation f) g h in
     let made = where_some (is_new f o.0.name) (record f { ops = f.ops ++ o.0 ∷ [] }) g o.2 in
@@ -213,7 +218,8 @@ small-file bytes f is =
     let start : File = record { pointer = pointer.0; ops = []; goals = [] } in
     let read = bind_some (with_items start first.0.1) _ f pointer.2 in
     let made = where_some (is_small read.0.ops read.0.goals) read.0 f read.2 in
-    let plain = subst IsPlainFile made.1 (items_plain start read.0 first.0.1 read.1 (record { ops = tt; goals = tt })) in
+    let plain = subst IsPlainFile made.1 (items_plain start read.0 first.0.1 read.1 (record { ops = tt; goals = tt }))
+    in
     let small = subst (λ (g : File). is_small g.ops g.goals ≡ true) made.1 made.0 in
     let only = only_goal f.ops f.goals small in
     let fits = (subst (λ gs. AllByRecursion IsPlainGoal gs) only.1 plain.goals).0 in

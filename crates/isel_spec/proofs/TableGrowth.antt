@@ -6,7 +6,8 @@ use Rattle.std.specs.List.{list_all}
 use Rattle.std.proofs.lemmas.Bool.{and_parts, ltb-true}
 use Rattle.std.proofs.lemmas.Bool.Decides.{nat_tests}
 use Rattle.std.proofs.lemmas.List.Folds.{list_all-append}
-use Rattle.std.proofs.lemmas.List.Elements.{Contains-append_cases, Contains-append_left, Contains-append_right, Contains-push}
+use Rattle.std.proofs.lemmas.List.Elements.{Contains-append_cases, Contains-append_left, Contains-append_right}
+use Rattle.std.proofs.lemmas.List.Elements.{Contains-push}
 use Rattle.bv_terms.specs.declared.op.TermId.{TermId}
 use Rattle.bv_terms.specs.declared.value.Sort.{Sort}
 use Rattle.bv_terms.specs.Term.{Term}
@@ -15,7 +16,8 @@ use Rattle.isel_spec.specs.declared.definitions.OpDef.{OpDef}
 use Rattle.isel_spec.specs.declared.definitions.GoalDef.{GoalDef}
 use Rattle.isel_spec.specs.declared.small_form.tables.Tables.{Tables}
 use Rattle.isel_spec.specs.File as file
-use Rattle.isel_spec.specs.File.{File, operation, goal, scope, stays_in, are_sound, is_between, is_sound_op, is_sound_goal}
+use Rattle.isel_spec.specs.File.{File, operation, goal, scope, stays_in, are_sound, is_between, is_sound_op}
+use Rattle.isel_spec.specs.File.{is_sound_goal}
 use Rattle.isel_spec.specs.Form.{HasFewTerms}
 use Rattle.isel_spec.specs.Reading.{KeepsTerms}
 use Rattle.isel_spec.specs.Tables.{file_so_far, HasFew, IsSoundSoFar}
@@ -34,14 +36,16 @@ map-push f (y ∷ ys) x = ap (λ zs. f y ∷ zs) (map-push f ys x)
 
 all-push : {A : Type 0} (p : A → Bool) (xs : List A) (x : A) → list_all p xs ≡ true → p x ≡ true
     → list_all p (xs ++ x ∷ []) ≡ true
-all-push p xs x h k = list_all-append p xs (x ∷ []) ∙ both (list_all p xs) (list_all p (x ∷ [])) h (both (p x) true k refl)
+all-push p xs x h k =
+    list_all-append p xs (x ∷ []) ∙ both (list_all p xs) (list_all p (x ∷ [])) h (both (p x) true k refl)
 
 -- ---- what stood in the tables stays
 
 abbrev results_in : Table → List TermId → List Term
 results_in table ats = map (λ (at : TermId). term_in (terms_of table) at.0) ats
 
-results-kept : (old new : Table) → KeepsTerms old new → (ss : List Sort) (ats : List TermId) → are_sound old ss ats ≡ true
+results-kept : (old new : Table) → KeepsTerms old new → (ss : List Sort) (ats : List TermId)
+    → are_sound old ss ats ≡ true
     → (are_sound new ss ats ≡ true) × (results_in new ats ≡ results_in old ats)
 results-kept old new keeps ss [] h = (refl, refl)
 results-kept old new keeps ss (at ∷ ats) h =
@@ -62,11 +66,11 @@ op-kept : (old new : Table) → KeepsTerms old new → (e : List ℕ × OpDef) �
     → (is_sound_op new e ≡ true) × (operation new e ≡ operation old e)
 op-kept old new keeps e h =
     let limits : Bool = nat_le (length e.1.args) 4 && nat_le (length e.1.attrs) 2 && is_between 1 3 (length e.1.results)
-        && list_all (is_between 1 64) e.1.attrs in
+    && list_all (is_between 1 64) e.1.attrs in
     let parts = and_parts limits (are_sound old (scope e.1) e.1.results) h in
     let kept = results-kept old new keeps (scope e.1) e.1.results parts.1 in
     let with_results : List Term → file.Operation = λ rs.
-        record { name = e.0; args = e.1.args; attrs = e.1.attrs; results = rs } in
+    record { name = e.0; args = e.1.args; attrs = e.1.attrs; results = rs } in
     (both limits (are_sound new (scope e.1) e.1.results) parts.0 kept.0, ap with_results kept.1)
 
 goal-kept : (old new : Table) → KeepsTerms old new → (e : List ℕ × GoalDef) → is_sound_goal old e ≡ true
@@ -77,7 +81,7 @@ goal-kept old new keeps e h =
     let parts = and_parts limits (are_sound old sorts e.1.results) h in
     let kept = results-kept old new keeps sorts e.1.results parts.1 in
     let with_results : List Term → file.Goal = λ rs.
-        record { name = e.0; kinds = map (λ a. a.0) e.1.args; args = sorts; cost = e.1.cost; results = rs } in
+    record { name = e.0; kinds = map (λ a. a.0) e.1.args; args = sorts; cost = e.1.cost; results = rs } in
     (both limits (are_sound new sorts e.1.results) parts.0 kept.0, ap with_results kept.1)
 
 ops-kept : (old new : Table) → KeepsTerms old new → (es : List (List ℕ × OpDef)) → list_all (is_sound_op old) es ≡ true
@@ -145,7 +149,8 @@ one-more_goal old new e keeps sound goals ops h =
     record {
       sound = record {
         ops = ap (list_all (is_sound_op new.terms)) ops ∙ beside.0;
-        goals = ap (list_all (is_sound_goal new.terms)) goals ∙ all-push (is_sound_goal new.terms) old.goals e before.0 h;
+        goals = ap (list_all (is_sound_goal new.terms)) goals
+            ∙ all-push (is_sound_goal new.terms) old.goals e before.0 h;
       };
       is = λ i. record { pointer = keeps.pointer i; ops = ops_are i; goals = goals_are i };
     }

@@ -71,12 +71,14 @@ abbrev mutual
   term_of scope (Branch from to End) = None
   term_of scope (Branch from to (Then (Branch _ _ _) arguments)) = None
   term_of scope (Branch from to (Then (Word _ word) arguments)) =
-      option_and_then (λ o. option_and_then (λ ts. well_sorted (Apply o ts)) (operands_of scope arguments)) (operator word)
+      option_and_then (λ o. option_and_then (λ ts. well_sorted (Apply o ts)) (operands_of scope arguments))
+      (operator word)
 
   pub operands_of : List Binding → Trees → Option Operands
   operands_of scope End = Some term.End
   operands_of scope (Then t ts) =
-      option_and_then (λ first. option_and_then (λ rest. Some (term.Then first rest)) (operands_of scope ts)) (term_of scope t)
+      option_and_then (λ first. option_and_then (λ rest. Some (term.Then first rest)) (operands_of scope ts))
+      (term_of scope t)
 
 -- How a tree is looked at: the bytes of a word, and the members of a list. What stands for trees is
 -- looked at in the same way.

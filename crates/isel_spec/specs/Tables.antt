@@ -28,7 +28,8 @@ pub record IsSoundSoFar (tables : Tables) : Type 0 where
   pub goals : list_all (is_sound_goal tables.terms) tables.goals ≡ true
 
 -- what is said of a definition's arguments and result are these, the result without other inputs
-pub record IsBody (table : Table) (said : Option (List Binding × Term)) (scope : List Binding) (at : TermId) : Type 0 where
+pub record IsBody (table : Table) (said : Option (List Binding × Term)) (scope : List Binding)
+    (at : TermId) : Type 0 where
   pub is : said ≡ Some (scope, term_at table at)
   pub stays : stays_in (map (λ b. b.1) scope) (term_at table at) ≡ true
   pub few : HasFewTerms (term_at table at ∷ [])

@@ -1,3 +1,5 @@
+//! Why no file of the small form is read: the bytes are none, or memory ran out.
+
 ghost use Rattle.std.specs.Prelude.{◌≡◌};
 ghost use Rattle.isel_spec.specs.declared.small_form.fault.FirstFault.TheVariants.{NoMemory};
 

@@ -1,4 +1,5 @@
-//! How many different terms stand in a definition's result.
+//! How many different terms stand in a definition's result. Equal terms are one node of the table, so
+//! the nodes that the result leads to are counted, each once.
 
 ghost use Rattle.std.specs.Prelude.{◌≡◌, ◌<◌, ◌↔◌, [], ◌∷◌, length, OnOk, IfOk, IsTrue};
 ghost use Rattle.bv_terms.specs.Table.{term_at};

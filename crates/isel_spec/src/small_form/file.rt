@@ -39,10 +39,10 @@ pub fn file(alloc: Global, bytes: &[u8], forest: &Forest) -> Result<Spec, FirstF
     requires { IsReading bytes.now forest.now }
     ensures { Tells result
         (λ spec. HasFew (file spec) × ((trees : List Tree) →
-            AllZip (Denotes bytes.now forest.now.items) forest.now.outermost trees →
-            file_in trees ≡ Some (file spec)))
+        AllZip (Denotes bytes.now forest.now.items) forest.now.outermost trees →
+        file_in trees ≡ Some (file spec)))
         ((trees : List Tree) (f : File) → AllZip (Denotes bytes.now forest.now.items) forest.now.outermost trees →
-            file_in trees ≡ Some f → HasFew f → ⊥) }
+        file_in trees ≡ Some f → HasFew f → ⊥) }
 {
     let Some((head, items)) = forest.top().split_first() else {
         return Err(FirstFault::Outside);

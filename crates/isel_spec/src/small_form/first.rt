@@ -1,4 +1,5 @@
-//! The small form, from the bytes of a file.
+//! The top call: a file of the small form, from its bytes. It looks at their number and for a comment,
+//! and then at the words and lists.
 
 ghost use Rattle.std.specs.Prelude.{◌≡◌, ◌≤◌, ◌^◌, ◌↔◌, ℕ, List, length, Contains, IsTrue, IfOk, IsErrOf};
 ghost use Rattle.sexp_read.specs.Forest.{IsReading};

@@ -43,13 +43,13 @@ fn body(
     ensures few { IfOk result (λ body. length body.0 ≤ 4) }
     ensures tells { Tells result
         (λ body. (trees : List Tree) (tree : Tree) →
-            AllZip (Denotes bytes.now forest.now.items) args.now trees →
-            Denotes bytes.now forest.now.items result_item tree →
-            IsBody terms.new (body_in subject trees tree) body.0 body.1)
+        AllZip (Denotes bytes.now forest.now.items) args.now trees →
+        Denotes bytes.now forest.now.items result_item tree →
+        IsBody terms.new (body_in subject trees tree) body.0 body.1)
         ((trees : List Tree) (tree : Tree) (body : List Binding × Term) →
-            AllZip (Denotes bytes.now forest.now.items) args.now trees →
-            Denotes bytes.now forest.now.items result_item tree →
-            body_in subject trees tree ≡ Some body → HasFewTerms (body.1 ∷ []) → ⊥) }
+        AllZip (Denotes bytes.now forest.now.items) args.now trees →
+        Denotes bytes.now forest.now.items result_item tree →
+        body_in subject trees tree ≡ Some body → HasFewTerms (body.1 ∷ []) → ⊥) }
 {
     let scope = scope(alloc, subject, bytes, forest, args)?;
     let at = term(alloc, bytes, forest, &scope, terms, result_item)?;
@@ -73,9 +73,9 @@ fn add_operation(
     requires sound { IsSoundSoFar tables.old }
     ensures { Tells result
         (λ _. IsAdded (AllZip (Denotes bytes.now forest.now.items) items.now)
-            (with_members Subject.Operation (file_so_far tables.old)) tables.old tables.new)
+        (with_members Subject.Operation (file_so_far tables.old)) tables.old tables.new)
         (IsRefused (AllZip (Denotes bytes.now forest.now.items) items.now)
-            (with_members Subject.Operation (file_so_far tables.old))) }
+        (with_members Subject.Operation (file_so_far tables.old))) }
 {
     let Some(parts) = parts(Subject::Operation, bytes, forest, items) else {
         return Err(FirstFault::Outside);
@@ -116,9 +116,9 @@ fn add_goal(
     requires sound { IsSoundSoFar tables.old }
     ensures { Tells result
         (λ _. IsAdded (AllZip (Denotes bytes.now forest.now.items) items.now)
-            (with_members Subject.Goal (file_so_far tables.old)) tables.old tables.new)
+        (with_members Subject.Goal (file_so_far tables.old)) tables.old tables.new)
         (IsRefused (AllZip (Denotes bytes.now forest.now.items) items.now)
-            (with_members Subject.Goal (file_so_far tables.old))) }
+        (with_members Subject.Goal (file_so_far tables.old))) }
 {
     let Some(parts) = parts(Subject::Goal, bytes, forest, items) else {
         return Err(FirstFault::Outside);
@@ -174,9 +174,9 @@ fn add_members(
     requires sound { IsSoundSoFar tables.old }
     ensures { Tells result
         (λ _. IsAdded (AllZip (Denotes bytes.now forest.now.items) items.now)
-            (with_members subject (file_so_far tables.old)) tables.old tables.new)
+        (with_members subject (file_so_far tables.old)) tables.old tables.new)
         (IsRefused (AllZip (Denotes bytes.now forest.now.items) items.now)
-            (with_members subject (file_so_far tables.old))) }
+        (with_members subject (file_so_far tables.old))) }
 {
     match subject {
         Subject::Operation => add_operation(alloc, bytes, forest, items, tables),
@@ -198,7 +198,7 @@ fn add_item(
     requires sound { IsSoundSoFar tables.old }
     ensures { Tells result
         (λ _. IsAdded (Denotes bytes.now forest.now.items item)
-            (with_item (file_so_far tables.old)) tables.old tables.new)
+        (with_item (file_so_far tables.old)) tables.old tables.new)
         (IsRefused (Denotes bytes.now forest.now.items item) (with_item (file_so_far tables.old))) }
 {
     let Some((subject, rest)) = headed(bytes, forest, item) else {
@@ -221,9 +221,9 @@ pub fn add_items(
     requires sound { IsSoundSoFar tables.old }
     ensures { Tells result
         (λ _. IsAdded (AllZip (Denotes bytes.now forest.now.items) items.now)
-            (with_items (file_so_far tables.old)) tables.old tables.new)
+        (with_items (file_so_far tables.old)) tables.old tables.new)
         (IsRefused (AllZip (Denotes bytes.now forest.now.items) items.now)
-            (with_items (file_so_far tables.old))) }
+        (with_items (file_so_far tables.old))) }
 {
     for item in items {
         add_item(alloc, bytes, forest, *item, tables)?;

@@ -1,3 +1,6 @@
+//! The four parts after the head of a definition. Each part is an item of the forest, so that it can be
+//! read in its turn.
+
 ghost use Rattle.std.specs.Prelude.{◌≡◌, ◌<◌, length, option_map, IfSome};
 ghost use Rattle.std.specs.List.{All};
 ghost use Rattle.sexp_read.specs.Forest.{IsReading};

@@ -1,4 +1,5 @@
-//! The parts of a file of the small form, read off the items of its forest.
+//! The parts of a file of the small form, read off the items of its forest. What is read of an item is
+//! what the tree that it stands for says.
 
 ghost use Rattle.std.specs.Prelude.{◌≡◌, ◌<◌, ◌≤◌, length, option_map, IfSome};
 ghost use Rattle.std.specs.List.{All};
@@ -16,7 +17,8 @@ pub fn members<'a>(bytes: &[u8], forest: &'a Forest, item: usize) -> Option<&'a 
     requires reading { IsReading bytes.now forest.now }
     requires item_in { item < length forest.now.items }
     ensures value { option_map (λ members. members.now) result ≡ children_at forest.now.items item }
-    ensures later { IfSome result (λ members. All (λ member. (item < member) × (member < length forest.now.items)) members.now) }
+    ensures later { IfSome result (λ members.
+        All (λ member. (item < member) × (member < length forest.now.items)) members.now) }
 {
     forest.children(item)
 }
@@ -67,7 +69,8 @@ fn arg<'a>(bytes: &'a [u8], forest: &Forest, item: usize) -> Option<(&'a str, So
 fn goal_arg<'a>(bytes: &'a [u8], forest: &Forest, item: usize) -> Option<(&'a str, Sort)>
     requires reading { IsReading bytes.now forest.now }
     requires item_in { item < length forest.now.items }
-    ensures { option_map (λ found. (found.0.now, found.1)) result ≡ goal_arg_in (item_view bytes.now forest.now.items) item }
+    ensures { option_map (λ found. (found.0.now, found.1)) result
+        ≡ goal_arg_in (item_view bytes.now forest.now.items) item }
 {
     let [kind, name, sort_item] = members(bytes, forest, item)? else {
         return None;

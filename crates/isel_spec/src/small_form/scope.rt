@@ -1,4 +1,4 @@
-//! The arguments of a definition: names in scope of its result.
+//! The arguments of a definition: names in scope of its result. They are at most four, and differ.
 
 ghost use Rattle.std.specs.Prelude.{◌≡◌, ◌<◌, ◌≤◌, length, map, option_and_then, None, Some, IfOk, IsTrue};
 ghost use Rattle.std.specs.List.{All};
@@ -12,7 +12,7 @@ use crate::small_form::fault::FirstFault;
 use crate::small_form::parts::binding;
 use crate::small_form::subject::Subject;
 use bv_terms::Sort;
-use collections::{Seq, NameMap};
+use collections::{NameMap, Seq};
 use sexp_read::Forest;
 use std::alloc::{AllocError, Global};
 
@@ -30,8 +30,10 @@ pub fn scope(
     requires reading { IsReading bytes.now forest.now }
     requires items_in { All (λ item. item < length forest.now.items) items.now }
     ensures tells { Tells result
-        (λ scope. option_and_then scope_of (each (binding_in subject (item_view bytes.now forest.now.items)) items.now) ≡ Some scope)
-        (option_and_then scope_of (each (binding_in subject (item_view bytes.now forest.now.items)) items.now) ≡ None) }
+        (λ scope. option_and_then scope_of
+        (each (binding_in subject (item_view bytes.now forest.now.items)) items.now) ≡ Some scope)
+        (option_and_then scope_of
+        (each (binding_in subject (item_view bytes.now forest.now.items)) items.now) ≡ None) }
     ensures few { IfOk result (λ scope. length scope ≤ 4) }
 {
     let mut scope = NameMap::new(alloc);

@@ -1,4 +1,4 @@
-//! The limits of the small form.
+//! The limits on the numbers of operations and goals, and on the bits of a goal's inputs.
 
 ghost use Rattle.std.specs.Prelude.{◌≡◌, map, sum, nat_le, ◌&&◌};
 ghost use Rattle.bv_terms.specs.Sorts.{width_of};

@@ -1,3 +1,5 @@
+//! Which of the two a definition is: the head of its item tells.
+
 /// What an item of a file defines.
 #[derive(Clone, Copy, Debug)]
 pub enum Subject {

@@ -1,4 +1,4 @@
-//! Terms of the small form.
+//! Terms of the small form. Reading adds nodes to the table, and those that were there keep their terms.
 
 ghost use Rattle.std.specs.Prelude.{◌≡◌, ◌<◌, ◌≤◌, length, option_and_then, option_map, None, IfOk, IfSome};
 ghost use Rattle.std.specs.List.{All};
@@ -64,7 +64,8 @@ fn make(terms: &mut Terms, op: Op, args: &[TermId]) -> Result<TermId, FirstFault
 fn word_term(scope: &NameMap<Sort>, terms: &mut Terms, word: &[u8]) -> Result<TermId, FirstFault>
     requires { length scope.now ≤ 4 }
     ensures keeps { KeepsTerms terms.old terms.new }
-    ensures tells { Tells result (IsTermOf terms.new (option_and_then (λ op. well_sorted (Apply op End)) (leaf scope.now word.now)))
+    ensures tells { Tells result
+        (IsTermOf terms.new (option_and_then (λ op. well_sorted (Apply op End)) (leaf scope.now word.now)))
         (option_and_then (λ op. well_sorted (Apply op End)) (leaf scope.now word.now) ≡ None) }
 {
     match leaf(scope, word) {
@@ -77,8 +78,10 @@ fn word_term(scope: &NameMap<Sort>, terms: &mut Terms, word: &[u8]) -> Result<Te
 fn application<'a>(bytes: &[u8], forest: &'a Forest, item: usize) -> Option<(Op, &'a [usize])>
     requires reading { IsReading bytes.now forest.now }
     requires item_in { item < length forest.now.items }
-    ensures value { option_map (λ found. (found.0, found.1.now)) result ≡ application_in (item_view bytes.now forest.now.items) item }
-    ensures later { IfSome result (λ found. All (λ member. (item < member) × (member < length forest.now.items)) found.1.now) }
+    ensures value { option_map (λ found. (found.0, found.1.now)) result
+        ≡ application_in (item_view bytes.now forest.now.items) item }
+    ensures later { IfSome result (λ found.
+        All (λ member. (item < member) × (member < length forest.now.items)) found.1.now) }
 {
     let (head, arguments) = members(bytes, forest, item)?.split_first()?;
     let word = forest.atom(bytes, *head)?;
@@ -99,7 +102,8 @@ pub fn term(
     requires item_in { item < length forest.now.items }
     requires scope { length scope.now ≤ 4 }
     ensures keeps { KeepsTerms terms.old terms.new }
-    ensures tells { Tells result (λ at. (t : Tree) → Denotes bytes.now forest.now.items item t → IsTermOf terms.new (term_of scope.now t) at)
+    ensures tells { Tells result
+        (λ at. (t : Tree) → Denotes bytes.now forest.now.items item t → IsTermOf terms.new (term_of scope.now t) at)
         ((t : Tree) → Denotes bytes.now forest.now.items item t → term_of scope.now t ≡ None) }
     ensures within { IfOk result (λ at. at.0 < length terms.new.nodes) }
 {

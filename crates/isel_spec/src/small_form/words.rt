@@ -1,8 +1,11 @@
-//! The words of a file's text: numerals, names, literals and operators.
+//! The words of a file's text: numerals, names, literals and operators. Each function answers exactly
+//! what `specs/Text` and `specs/Form` say of the word.
 
 ghost use Rattle.std.specs.Prelude.{◌≡◌, ◌<◌, ◌≤◌, ◌^◌, ◌*◌, length, option_map, IfSome};
 ghost use Rattle.std.specs.List.{list_all};
-ghost use Rattle.isel_spec.specs.Text.{is_digit, is_letter, is_name_byte, starts_with_letter, has_name_bytes, is_truth_value, is_name, is_numeral, numeral, digit_in, digit_bits, hex_digit, binary_digit, number, width, constant, literal};
+ghost use Rattle.isel_spec.specs.Text.{is_digit, is_letter, is_name_byte, starts_with_letter, has_name_bytes};
+ghost use Rattle.isel_spec.specs.Text.{is_truth_value, is_name, is_numeral, numeral, digit_in, digit_bits};
+ghost use Rattle.isel_spec.specs.Text.{hex_digit, binary_digit, number, width, constant, literal};
 ghost use Rattle.isel_spec.specs.Form.{where_true, subject_of, operator};
 
 use crate::small_form::subject::Subject;
@@ -168,7 +171,7 @@ fn number(base: Base, digits: &[u8]) -> Option<u64>
     Some(number)
 }
 
-/// How many bits so many digits have: at most 64.
+/// How many bits that many digits have: at most 64.
 fn width(base: Base, count: usize) -> Option<u8>
     ensures { result ≡ width base count }
 {

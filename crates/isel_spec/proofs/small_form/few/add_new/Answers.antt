@@ -14,12 +14,16 @@ loop-node-preserved c =
     let node : TermId = get_or nodes i (record { 0 = 0 }) in
     let there = slice_get-get_or nodes i (record { 0 = 0 }) c.loop-node-test.true in
     let found = c.loop-node.found.items in
-    let asked : list_any (λ y. nat_eq y node.0) found ≡ c.contains.result = ap (list_any (λ y. nat_eq y node.0)) (sym c.deref.ensures.value) ∙ sym c.contains.ensures.value in
+    let asked : list_any (λ y. nat_eq y node.0) found ≡ c.contains.result =
+    ap (list_any (λ y. nat_eq y node.0)) (sym c.deref.ensures.value) ∙ sym c.contains.ensures.value in
     elim c.if-not-contains.branch [
       | then-not-contains+in_ok-push w ↦
-          subst (λ ns. Adds c.args.found.now.items ns (take (i + 1) nodes)) (sym (ap (λ v. v.items) w.found-is ∙ w.in_ok-push.ensures.items))
-          (adds-push c.args.found.now.items found nodes i node there c.loop-node.invariant (sym (any-flip node.0 found) ∙ asked ∙ w.if-not-contains.true))
+          subst (λ ns. Adds c.args.found.now.items ns (take (i + 1) nodes))
+          (sym (ap (λ v. v.items) w.found-is ∙ w.in_ok-push.ensures.items))
+          (adds-push c.args.found.now.items found nodes i node there c.loop-node.invariant
+          (sym (any-flip node.0 found) ∙ asked ∙ w.if-not-contains.true))
       | else-not-contains w ↦
           subst (λ ns. Adds c.args.found.now.items ns (take (i + 1) nodes)) (sym (ap (λ v. v.items) w.found-is))
-          (adds-skip c.args.found.now.items found nodes i node there c.loop-node.invariant (any-contains node.0 found (asked ∙ w.if-not-contains.false)))
+          (adds-skip c.args.found.now.items found nodes i node there c.loop-node.invariant
+          (any-contains node.0 found (asked ∙ w.if-not-contains.false)))
     ]

@@ -19,7 +19,8 @@ pointer-requires-clause-item_in c =
     let rest = c.in-Some.items.now in
     let top : c.args.forest.now.outermost ≡ head ∷ rest = sym c.top.ensures ∙ c.in-Some.ensures.cases.0 in
     let within : ℕ → Type 0 = λ n. n < length items in
-    let all = All-same within (head ∷ rest) c.args.forest.now.outermost (sym top) (top-within bytes c.args.forest.now c.requires) in
+    let all = All-same within (head ∷ rest) c.args.forest.now.outermost (sym top)
+    (top-within bytes c.args.forest.now c.requires) in
     All-head within head rest all
 
 pub add_items-requires-clause-items_in : goal.add_items-requires-clause-items_in
@@ -30,7 +31,8 @@ add_items-requires-clause-items_in c =
     let rest = c.in-Some.items.now in
     let top : c.args.forest.now.outermost ≡ head ∷ rest = sym c.top.ensures ∙ c.in-Some.ensures.cases.0 in
     let within : ℕ → Type 0 = λ n. n < length items in
-    let all = All-same within (head ∷ rest) c.args.forest.now.outermost (sym top) (top-within bytes c.args.forest.now c.requires) in
+    let all = All-same within (head ∷ rest) c.args.forest.now.outermost (sym top)
+    (top-within bytes c.args.forest.now c.requires) in
     All-tail within head rest all
 
 pub add_items-requires-clause-denoted : goal.add_items-requires-clause-denoted
@@ -132,5 +134,5 @@ returns c =
     let few = few-read bytes items head rest c.in-Some-pointer.pointer new has in (
       record { in_ops = few.in_ops; in_goals = few.in_goals },
       λ trees d. small-accepted bytes items head rest c.in-Some-pointer.pointer new has small trees
-      (subst (λ ns. AllZip (Denotes bytes items) ns trees) top d),
+          (subst (λ ns. AllZip (Denotes bytes items) ns trees) top d),
     )

@@ -7,4 +7,6 @@ use Rattle.isel_spec.proofs.small_form.first.one_first_file.Goals as goal
 
 pub returns : goal.returns
 returns c = λ bytes one other a b.
-    same_Some one other (sym a.says ∙ ap (λ trees. file_in (list_of trees)) (trees-unique (tokens bytes) a.trees b.trees a.spelled b.spelled) ∙ b.says)
+    same_Some one other (sym a.says
+    ∙ ap (λ trees. file_in (list_of trees)) (trees-unique (tokens bytes) a.trees b.trees a.spelled b.spelled)
+    ∙ b.says)

@@ -6,7 +6,8 @@ use Rattle.isel_spec.specs.Items.{read_parts}
 use Rattle.isel_spec.specs.Tables.{file_so_far}
 use Rattle.isel_spec.proofs.FileLemmas.{new-goal}
 use Rattle.isel_spec.proofs.TermSteps.{tells-err}
-use Rattle.isel_spec.proofs.MemberSteps.{members-no_parts, members-twice, members-no_body, HasBody, added-goal, goal_entry}
+use Rattle.isel_spec.proofs.MemberSteps.{members-no_parts, members-twice, members-no_body, HasBody, added-goal}
+use Rattle.isel_spec.proofs.MemberSteps.{goal_entry}
 use Rattle.isel_spec.proofs.small_form.item.add_goal.Goals as goal
 
 pub returns-in_default : goal.returns-in_default
@@ -28,7 +29,8 @@ returns-in_err-scope c =
 
 pub insert-requires : goal.insert-requires
 insert-requires c =
-    new-goal c.args.tables.now _ c.in-Some.parts.name.now c.in_ok-name.ensures.ok (sym c.is_new.ensures ∙ c.if-not-is_new.false)
+    new-goal c.args.tables.now _ c.in-Some.parts.name.now c.in_ok-name.ensures.ok
+    (sym c.is_new.ensures ∙ c.if-not-is_new.false)
 
 pub returns : goal.returns
 returns c =
@@ -36,7 +38,7 @@ returns c =
     let old = c.args.tables.now in
     let new : Tables = record old { terms = c.body.new.terms; goals = c.insert.new.self } in
     let h : HasBody Goal c.args.bytes.now c.args.forest.now.items c.args.items.now parts old c.body.new.terms
-        c.in_ok-scope.scope c.in_ok-scope.at = record {
+    c.in_ok-scope.scope c.in_ok-scope.at = record {
       parts = sym c.in-Some.ensures.value;
       new = sym c.is_new.ensures ∙ c.if-not-is_new.false;
       keeps = c.in_ok-scope.ensures.keeps;
@@ -44,7 +46,9 @@ returns c =
       within = c.in_ok-scope.ensures.within;
       body = c.in_ok-scope.ensures.tells;
     } in
-    let grown : c.insert.new.self ≡ old.goals ++ goal_entry parts.name c.in_ok-scope.scope parts.cost c.in_ok-scope.at ∷ [] =
+    let grown : c.insert.new.self
+    ≡ old.goals ++ goal_entry parts.name c.in_ok-scope.scope parts.cost c.in_ok-scope.at ∷ [] =
     c.in_ok-insert.ensures.ok ∙ rw (c.in_ok-name.ensures.ok, c.in_ok-registers.ensures, c.in_ok-only.ensures) refl in
-    added-goal c.args.bytes.now c.args.forest.now.items c.args.items.now parts old new c.in_ok-scope.scope c.in_ok-scope.at
+    added-goal c.args.bytes.now c.args.forest.now.items c.args.items.now parts old new c.in_ok-scope.scope
+    c.in_ok-scope.at
     c.requires.denoted h c.requires.sound grown refl

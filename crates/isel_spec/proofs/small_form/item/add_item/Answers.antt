@@ -6,7 +6,8 @@ use Rattle.isel_spec.proofs.small_form.item.add_item.Goals as goal
 
 pub returns-in_default : goal.returns-in_default
 returns-in_default c =
-    item-none c.args.bytes.now c.args.forest.now.items c.args.item (file_so_far c.args.tables.now) (sym c.in_default.ensures.value)
+    item-none c.args.bytes.now c.args.forest.now.items c.args.item (file_so_far c.args.tables.now)
+    (sym c.in_default.ensures.value)
 
 pub add_members-requires-clause-denoted : goal.add_members-requires-clause-denoted
 add_members-requires-clause-denoted c =

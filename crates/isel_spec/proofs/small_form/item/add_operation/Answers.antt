@@ -28,7 +28,8 @@ returns-in_err-scope c =
 
 pub insert-requires : goal.insert-requires
 insert-requires c =
-    new-op c.args.tables.now _ c.in-Some.parts.name.now c.in_ok-name.ensures.ok (sym c.is_new.ensures ∙ c.if-not-is_new.false)
+    new-op c.args.tables.now _ c.in-Some.parts.name.now c.in_ok-name.ensures.ok
+    (sym c.is_new.ensures ∙ c.if-not-is_new.false)
 
 pub returns : goal.returns
 returns c =
@@ -36,7 +37,7 @@ returns c =
     let old = c.args.tables.now in
     let new : Tables = record old { terms = c.body.new.terms; ops = c.insert.new.self } in
     let h : HasBody Operation c.args.bytes.now c.args.forest.now.items c.args.items.now parts old c.body.new.terms
-        c.in_ok-scope.scope c.in_ok-scope.at = record {
+    c.in_ok-scope.scope c.in_ok-scope.at = record {
       parts = sym c.in-Some.ensures.value;
       new = sym c.is_new.ensures ∙ c.if-not-is_new.false;
       keeps = c.in_ok-scope.ensures.keeps;
@@ -45,6 +46,8 @@ returns c =
       body = c.in_ok-scope.ensures.tells;
     } in
     let grown : c.insert.new.self ≡ old.ops ++ op_entry parts.name c.in_ok-scope.scope c.in_ok-scope.at ∷ [] =
-    c.in_ok-insert.ensures.ok ∙ rw (c.in_ok-name.ensures.ok, c.in_ok-sorts.ensures, c.new.ensures, c.in_ok-only.ensures) refl in
-    added-op c.args.bytes.now c.args.forest.now.items c.args.items.now parts old new c.in_ok-scope.scope c.in_ok-scope.at
+    c.in_ok-insert.ensures.ok
+    ∙ rw (c.in_ok-name.ensures.ok, c.in_ok-sorts.ensures, c.new.ensures, c.in_ok-only.ensures) refl in
+    added-op c.args.bytes.now c.args.forest.now.items c.args.items.now parts old new c.in_ok-scope.scope
+    c.in_ok-scope.at
     c.requires.denoted h c.requires.sound grown refl

@@ -14,7 +14,8 @@ returns-in_err-scope-clause-tells c =
 pub returns-in_err-at-clause-tells : goal.returns-in_err-at-clause-tells
 returns-in_err-at-clause-tells c =
     let p = err_from_is_err_and c.from_residual-in_err-at.result c.from_residual-in_err-at.ensures.1 in
-    tells-err c.in_err-at.field-0.0 c.from_residual-in_err-at.result _ _ _ _ (p.1 ∙ ap Err p.2) c.in_err-at.ensures.tells
+    tells-err c.in_err-at.field-0.0 c.from_residual-in_err-at.result _ _ _ _
+    (p.1 ∙ ap Err p.2) c.in_err-at.ensures.tells
     (body-no_term c.args.subject c.args.bytes.now c.args.forest.now.items c.args.args.now c.args.result_item
     c.in_ok-scope.scope c.in_ok-scope.ensures.tells)
 

@@ -7,7 +7,8 @@ use Rattle.isel_spec.proofs.small_form.scope.scope.Given as goal
 abbrev pub invariant-loop-item : goal.invariant-loop-item
 invariant-loop-item l = record {
   so_far : each (binding_in l.subject (item_view l.bytes l.forest.items)) l.items
-      ≡ option_map (λ more. l.scope ++ more) (each (binding_in l.subject (item_view l.bytes l.forest.items)) (drop l.item-index l.items));
+      ≡ option_map (λ more. l.scope ++ more)
+      (each (binding_in l.subject (item_view l.bytes l.forest.items)) (drop l.item-index l.items));
   few : length l.scope ≤ 4;
   apart : differ (map (λ b. b.0) l.scope) ≡ true;
 }

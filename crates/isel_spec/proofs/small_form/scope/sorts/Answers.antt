@@ -8,4 +8,5 @@ pub loop-place-preserved : goal.loop-place-preserved
 loop-place-preserved c =
     let b : Binding = (c.unwrap.result.0.now, c.unwrap.result.1.now) in
     let there : slice_get c.args.scope.now c.loop-place.place ≡ Some b = rw (← c.get.ensures, c.unwrap.ensures) refl in
-    c.in_ok-push.ensures.items ∙ ap (λ xs. xs ++ c.unwrap.result.1.now ∷ []) c.loop-place.invariant ∙ sym (map-take-more (λ (d : Binding). d.1) c.args.scope.now c.loop-place.place b there)
+    c.in_ok-push.ensures.items ∙ ap (λ xs. xs ++ c.unwrap.result.1.now ∷ []) c.loop-place.invariant
+    ∙ sym (map-take-more (λ (d : Binding). d.1) c.args.scope.now c.loop-place.place b there)
