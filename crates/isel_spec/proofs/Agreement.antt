@@ -1,18 +1,15 @@
 -- What is read off the items of a forest is what the trees that they stand for are.
-use Rattle.std.proofs.Common.{◌≡◌, ℕ, List, [], ◌∷◌, refl, ap, sym, ◌∙◌, Bool, true, false, Option, Some, None}
-use Rattle.std.proofs.Common.{option_map, option_and_then, ◌&&◌}
-use Rattle.std.specs.Prelude.{if◌then◌else◌, codes}
+use Rattle.std.proofs.Common.{◌≡◌, ℕ, List, [], ◌∷◌, refl, Bool, true, false, Option, Some, None}
+use Rattle.std.proofs.Common.{option_and_then}
 use Rattle.std.specs.List.{AllZip}
-use Rattle.std.specs.Str.{bytes_eq}
-use Rattle.bv_terms.specs.declared.value.Sort.{Sort}
 use Rattle.sexp_read.specs.declared.forest.Item.{Item}
 use Rattle.sexp_read.specs.Tree.{Tree, Trees, Word, Branch, End, Then}
 use Rattle.sexp_read.specs.Forest.{Denotes, DenoteAll, atom_at, children_at}
 use Rattle.isel_spec.specs.declared.small_form.subject.Subject.{Subject}
 use Rattle.isel_spec.specs.declared.small_form.subject.Subject.TheVariants.{Operation, Goal}
-use Rattle.isel_spec.specs.Text.{numeral, is_name, each}
-use Rattle.isel_spec.specs.Form.{Binding, binding, where_true, View, tree_view, list_of, word_in, members_in, none_of}
-use Rattle.isel_spec.specs.Form.{one_of, two_of, three_of, four_of, first_of, ◌>>=◌, sort_from, sort_in, arg_in}
+use Rattle.isel_spec.specs.Text.{is_name, each}
+use Rattle.isel_spec.specs.Form.{where_true, tree_view, list_of, word_in, members_in, none_of}
+use Rattle.isel_spec.specs.Form.{one_of, two_of, three_of, four_of, first_of, sort_in, arg_in}
 use Rattle.isel_spec.specs.Form.{goal_arg_in, binding_in, pointer_in, cost_in, parts_in, Parts}
 use Rattle.isel_spec.specs.Items.{item_view}
 

@@ -1,6 +1,6 @@
 -- Numbers read digit by digit.
 use Rattle.std.proofs.Common.{◌≡◌, ℕ, ◌+◌, ◌-◌, ◌*◌, ◌^◌, ◌<◌, ◌≤◌, List, [], ◌∷◌, length, get_or, drop, fold, map}
-use Rattle.std.proofs.Common.{refl, ap, sym, ◌∙◌, suc, mul-add, arith, add-one, Bool, true, Option, Some, None}
+use Rattle.std.proofs.Common.{refl, ap, ◌∙◌, suc, mul-add, arith, add-one, true, Option, Some, None}
 use Rattle.std.proofs.Common.{option_map, option_and_then}
 use Rattle.std.proofs.Math.Seq.{drop-cons}
 use Rattle.std.proofs.Math.Nat.{mul-le-mul_left, pow-le-pow_right}
@@ -9,7 +9,7 @@ use Rattle.std.proofs.lemmas.List.{drop_all}
 use Rattle.std.proofs.lemmas.List.Recursion.{and_at}
 use Rattle.std.proofs.lemmas.Bool.Decides.{nat_tests}
 use Rattle.std.specs.List.{list_all}
-use Rattle.isel_spec.specs.Text.{number_in, decimal, each, is_digit, is_numeral}
+use Rattle.isel_spec.specs.Text.{each, is_digit, is_numeral}
 
 -- the number of so many more digits
 abbrev pub number_from : ℕ → ℕ → List ℕ → ℕ

@@ -1,23 +1,22 @@
 -- How many nodes were found is how many different terms there are.
-use Rattle.std.proofs.Common.{◌≡◌, ℕ, ◌+◌, ◌<◌, ◌≤◌, zero, suc, List, [], ◌∷◌, ◌++◌, length, get_or, map, refl, ap, sym}
-use Rattle.std.proofs.Common.{◌∙◌, subst, arith, Bool, true, false, Some, ◌⊎◌, inl, inr, ⊎_elim, nat_eq, ◌||◌}
-use Rattle.std.specs.Prelude.{Contains, All}
+use Rattle.std.proofs.Common.{◌≡◌, ℕ, ◌<◌, ◌≤◌, zero, suc, List, [], ◌∷◌, length, get_or, map, refl, ap, sym}
+use Rattle.std.proofs.Common.{◌∙◌, subst, arith, Bool, true, false, Some, ⊎_elim, nat_eq, ◌||◌}
+use Rattle.std.specs.Prelude.{Contains}
 use Rattle.std.specs.List.{IsDistinct, list_any, slice_get, AllByRecursion, AllZip}
 use Rattle.std.proofs.lemmas.List.{length-map}
-use Rattle.std.proofs.lemmas.List.Elements.{All-contains, All-contains_itself, All-weaker, All-get_or}
+use Rattle.std.proofs.lemmas.List.Elements.{All-contains, All-weaker}
 use Rattle.std.proofs.lemmas.List.Elements.{recursion_from_All, Contains-append_right, Contains-append_cases}
 use Rattle.std.proofs.lemmas.List.Elements.{length_all_zip}
-use Rattle.std.proofs.lemmas.Option.{slice_get-get_or, same_Some, get_or_from_slice_get}
+use Rattle.std.proofs.lemmas.Option.{slice_get-get_or, same_Some}
 use Rattle.std.proofs.lemmas.Bool.{false≢true}
 use Rattle.std.proofs.lemmas.Bool.Decides.{Decides-eqb}
 use Rattle.std.proofs.lemmas.Map.Steps.{length-le_from_distinct_below}
 use Rattle.bv_terms.specs.declared.op.Op.{Op}
 use Rattle.bv_terms.specs.declared.op.Op.TheVariants as op
 use Rattle.bv_terms.specs.declared.op.TermId.{TermId}
-use Rattle.bv_terms.specs.Term as term
-use Rattle.bv_terms.specs.Term.{Term, Operands, Apply}
+use Rattle.bv_terms.specs.Term.{Term, Apply}
 use Rattle.bv_terms.specs.Table.{Table, Entry, IsTable, terms_of, term_in, operands}
-use Rattle.bv_terms.specs.Subterm.{IsSubterm, IsSubtermAmong}
+use Rattle.bv_terms.specs.Subterm.{IsSubterm}
 use Rattle.bv_terms.proofs.SubtermLemmas.{entry-at, among-argument}
 use Rattle.isel_spec.specs.Form.{HasFewTerms}
 use Rattle.isel_spec.proofs.Scopes.{only_one, false_unless}

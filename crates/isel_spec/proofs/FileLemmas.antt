@@ -1,5 +1,5 @@
 -- What the tables that were read say of the file.
-use Rattle.std.proofs.Common.{◌≡◌, ℕ, ◌+◌, ◌<◌, ◌≤◌, zero, List, [], ◌∷◌, length, map, sum, refl, ap, sym, ◌∙◌, subst}
+use Rattle.std.proofs.Common.{◌≡◌, ℕ, ◌<◌, ◌≤◌, zero, List, [], ◌∷◌, length, map, sum, refl, ap, sym, ◌∙◌, subst}
 use Rattle.std.proofs.Common.{arith}
 use Rattle.std.proofs.Common.{Bool, true, false, not, ◌&&◌, ◌||◌, Option, Some, None, option_and_then}
 use Rattle.std.specs.Prelude.{nat_le, Contains, All, ◌==◌}
@@ -11,7 +11,6 @@ use Rattle.std.proofs.lemmas.List.{length-map}
 use Rattle.std.proofs.lemmas.List.Elements.{Contains-append_right, All-from_recursion}
 use Rattle.std.proofs.lemmas.Option.{none-some, same_Some, slice_get_within, option_and_then_some}
 use Rattle.std.proofs.lemmas.Slice.Eq.{bytes_eq-Decides}
-use Rattle.bv_terms.specs.declared.value.Sort.{Sort}
 use Rattle.bv_terms.specs.Sorts.{width_of}
 use Rattle.bv_terms.specs.Table.{Table}
 use Rattle.sexp_read.specs.declared.forest.Item.{Item}
@@ -24,7 +23,7 @@ use Rattle.isel_spec.specs.declared.definitions.GoalDef.{GoalDef}
 use Rattle.isel_spec.specs.declared.small_form.tables.Tables.{Tables}
 use Rattle.isel_spec.specs.File as file
 use Rattle.isel_spec.specs.File.{File, operation, goal, is_between, is_sound, is_sound_op, is_sound_goal}
-use Rattle.isel_spec.specs.Form.{is_small, is_new, file_in, pointer_in, tree_view, with_items, where_true, list_of}
+use Rattle.isel_spec.specs.Form.{is_small, is_new, file_in, pointer_in, with_items, where_true, list_of}
 use Rattle.isel_spec.specs.Items.{item_view}
 use Rattle.isel_spec.specs.Tables.{file_so_far, HasFew, IsSoundSoFar, IsAdded, IsRefused}
 use Rattle.isel_spec.proofs.Agreement.{pointer_agrees, all_agree}

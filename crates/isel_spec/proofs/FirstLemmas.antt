@@ -1,13 +1,13 @@
 -- A file and the forest of its bytes.
-use Rattle.std.proofs.Common.{◌≡◌, ℕ, ◌≤◌, ◌^◌, List, length, refl, ap, sym, ◌∙◌, subst, Some, Result, Ok, Err, ⊎_elim}
+use Rattle.std.proofs.Common.{◌≡◌, ℕ, ◌≤◌, ◌^◌, List, length, refl, ap, sym, ◌∙◌, Some, Ok, Err, ⊎_elim}
 use Rattle.std.specs.Prelude.{Contains}
 use Rattle.std.specs.List.{AllZip}
 use Rattle.sexp_read.specs.declared.fault.SexpFault.{SexpFault}
 use Rattle.sexp_read.specs.declared.fault.SexpFault.TheVariants as read
 use Rattle.sexp_read.specs.declared.forest.Forest.{Forest}
-use Rattle.sexp_read.specs.Tree.{Tree, Trees}
+use Rattle.sexp_read.specs.Tree.{Tree}
 use Rattle.sexp_read.specs.Token.{tokens}
-use Rattle.sexp_read.specs.Forest.{IsReading, IsForest, Denotes, items_of, places}
+use Rattle.sexp_read.specs.Forest.{IsReading, Denotes, items_of, places}
 use Rattle.sexp_read.specs.Fault.{IsButForMemory}
 use Rattle.sexp_read.proofs.ForestLemmas.{forest-denotes}
 use Rattle.sexp_read.proofs.FaultLemmas.{trees-unique}

@@ -1,7 +1,7 @@
 -- The steps by which a definition is read, and becomes the last of a file.
 use Rattle.std.proofs.Common.{◌≡◌, ℕ, ◌<◌, ◌≤◌, List, [], ◌∷◌, ◌++◌, length, map, refl, ap, sym, ◌∙◌, subst, arith}
 use Rattle.std.proofs.Common.{Bool, true, false}
-use Rattle.std.proofs.Common.{Option, Some, None, option_map, option_and_then}
+use Rattle.std.proofs.Common.{Option, Some, None, option_and_then}
 use Rattle.std.specs.Prelude.{nat_le, nat_lt}
 use Rattle.std.specs.List.{AllZip}
 use Rattle.std.proofs.lemmas.List.{length-map}
@@ -35,7 +35,7 @@ use Rattle.isel_spec.proofs.Agreement.{Agree, StandsFor, parts_agree, bindings_a
 use Rattle.isel_spec.proofs.Agreement.{members_agree, first_agrees, words_agree}
 use Rattle.isel_spec.proofs.Scopes.{append-nothing}
 use Rattle.isel_spec.proofs.Stays.{term-stays}
-use Rattle.isel_spec.proofs.TableGrowth.{and_operation, and_goal, StandFor, one-more_op, one-more_goal}
+use Rattle.isel_spec.proofs.TableGrowth.{and_operation, and_goal, one-more_op, one-more_goal}
 use Rattle.isel_spec.proofs.TableGrowth.{few-with_op, few-with_goal, few-without_op, few-without_goal}
 
 agree-none : {A B : Type 0} (R : A → B → Type 0) (p : Option B) → Agree R None p → p ≡ None

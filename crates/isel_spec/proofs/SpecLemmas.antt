@@ -13,7 +13,7 @@ use Rattle.bv_terms.specs.declared.value.Sort.{Sort}
 use Rattle.bv_terms.specs.declared.value.Sort.TheVariants as sort
 use Rattle.bv_terms.specs.declared.value.Value.{Value}
 use Rattle.bv_terms.specs.Term.{Term, Operands, Apply, End, Then, value}
-use Rattle.bv_terms.specs.Sorts.{same_sort, HasSort, HaveSorts, InputsFit, AllInputsFit}
+use Rattle.bv_terms.specs.Sorts.{same_sort, HaveSorts, InputsFit, AllInputsFit}
 use Rattle.bv_terms.specs.Table.{Table, terms_of, term_in, term_at}
 use Rattle.bv_terms.proofs.TermLemmas.{HaveSorts-at, same_sort-true}
 use Rattle.isel_spec.specs.declared.definitions.OpDef.{OpDef}

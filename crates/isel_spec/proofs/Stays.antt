@@ -1,18 +1,16 @@
 -- The inputs of a term that is read are names in scope.
-use Rattle.std.proofs.Common.{◌≡◌, ℕ, ◌+◌, ◌-◌, ◌≤◌, suc, zero, List, [], ◌∷◌, length, map, refl, ap, sym, ◌∙◌, subst}
-use Rattle.std.proofs.Common.{arith, Bool, true, false, ◌&&◌, cond, Option, Some, None, option_map, option_and_then}
-use Rattle.std.specs.Prelude.{codes}
+use Rattle.std.proofs.Common.{◌≡◌, ℕ, ◌+◌, suc, zero, List, [], ◌∷◌, length, map, refl, ap, sym, ◌∙◌, subst}
+use Rattle.std.proofs.Common.{arith, Bool, true, false, cond, Option, Some, None, option_map}
 use Rattle.std.specs.List.{slice_get}
-use Rattle.std.specs.Option.{option_map_or}
 use Rattle.std.specs.Str.{bytes_eq}
-use Rattle.std.proofs.lemmas.Option.{none-some, same_Some, cond_some, option_and_then_some}
+use Rattle.std.proofs.lemmas.Option.{none-some, same_Some, option_and_then_some}
 use Rattle.bv_terms.specs.declared.op.Op.{Op}
 use Rattle.bv_terms.specs.declared.op.Op.TheVariants as op
 use Rattle.bv_terms.specs.declared.value.Sort.{Sort}
 use Rattle.bv_terms.specs.declared.value.Sort.TheVariants as sort
 use Rattle.bv_terms.specs.Term as term
 use Rattle.bv_terms.specs.Term.{Term, Operands, Apply}
-use Rattle.bv_terms.specs.Sorts.{same_sort, sort_of}
+use Rattle.bv_terms.specs.Sorts.{same_sort}
 use Rattle.sexp_read.specs.Tree.{Tree, Trees, Word, Branch, End, Then}
 use Rattle.isel_spec.specs.declared.small_form.words.Base.{Base}
 use Rattle.isel_spec.specs.declared.small_form.words.Base.TheVariants.{Binary, Hexadecimal}

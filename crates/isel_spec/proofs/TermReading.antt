@@ -1,6 +1,6 @@
 -- Terms as they are made, and names in scope.
-use Rattle.std.proofs.Common.{◌≡◌, ℕ, ◌<◌, List, [], ◌∷◌, drop, length, zero, suc, true, Bool, refl, ap, sym, ◌∙◌}
-use Rattle.std.proofs.Common.{subst, Option, Some, None, Result, Err, IsSome, is_some, option_and_then, unwrap_or, ◌≤◌}
+use Rattle.std.proofs.Common.{◌≡◌, ℕ, ◌<◌, List, [], ◌∷◌, drop, length, zero, suc, true, refl, sym, ◌∙◌}
+use Rattle.std.proofs.Common.{subst, Option, Some, None, Result, Err, IsSome, option_and_then}
 use Rattle.std.proofs.Common.{arith}
 use Rattle.std.specs.Prelude.{MatchOption}
 use Rattle.std.specs.List.{slice_get}
@@ -14,7 +14,7 @@ use Rattle.bv_terms.specs.declared.op.MakeFault.TheVariants as make
 use Rattle.bv_terms.specs.declared.value.Sort.{Sort}
 use Rattle.bv_terms.specs.Term.{Term, Operands, Apply}
 use Rattle.bv_terms.specs.Sorts.{sort_of, sorts_of, op_sort, refusal}
-use Rattle.bv_terms.specs.Table.{Table, IsTable, term_at, term_in, terms_of, operands, make_refusal}
+use Rattle.bv_terms.specs.Table.{Table, IsTable, term_at, terms_of, operands, make_refusal}
 use Rattle.bv_terms.proofs.TableLemmas.{length-terms_of}
 use Rattle.isel_spec.specs.Fault.{first_fault}
 use Rattle.isel_spec.specs.Form.{Binding, input_named, well_sorted}

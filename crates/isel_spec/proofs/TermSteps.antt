@@ -1,5 +1,5 @@
 -- The steps by which a term is read.
-use Rattle.std.proofs.Common.{◌≡◌, ℕ, ◌<◌, ◌≤◌, List, length, get_or, refl, ap, sym, ◌∙◌, Option, Some, None}
+use Rattle.std.proofs.Common.{◌≡◌, ℕ, ◌<◌, ◌≤◌, List, length, get_or, ap, sym, ◌∙◌, Some, None}
 use Rattle.std.proofs.Common.{option_and_then, Result, Ok, Err}
 use Rattle.bv_terms.specs.declared.op.Op.{Op}
 use Rattle.bv_terms.specs.declared.op.TermId.{TermId}

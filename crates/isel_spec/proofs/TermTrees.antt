@@ -1,5 +1,5 @@
 -- What an item says of the term that its tree is.
-use Rattle.std.proofs.Common.{◌≡◌, ℕ, ◌<◌, List, [], ◌∷◌, refl, ap, sym, ◌∙◌, subst, Option, Some, None, option_map}
+use Rattle.std.proofs.Common.{◌≡◌, ℕ, List, [], ◌∷◌, refl, ap, sym, ◌∙◌, subst, Option, Some, None}
 use Rattle.std.proofs.Common.{option_and_then}
 use Rattle.std.proofs.lemmas.Option.{none-some, same_Some}
 use Rattle.bv_terms.specs.Term as term
@@ -7,7 +7,6 @@ use Rattle.bv_terms.specs.Term.{Term, Operands, Apply}
 use Rattle.sexp_read.specs.declared.forest.Item.{Item}
 use Rattle.sexp_read.specs.Tree.{Tree, Trees, Word, Branch, End, Then}
 use Rattle.sexp_read.specs.Forest.{Denotes, DenoteAll, atom_at, children_at}
-use Rattle.isel_spec.specs.Text.{each}
 use Rattle.bv_terms.specs.declared.op.Op.{Op}
 use Rattle.isel_spec.specs.Items.{item_view}
 use Rattle.isel_spec.specs.Form.{Binding, application_in, first_of, operator, leaf, well_sorted, term_of, operands_of}

@@ -1,7 +1,7 @@
 -- What the steps of the reader say of their results.
-use Rattle.std.specs.Prelude.{◌≡◌, ℕ, ◌<◌, ◌≤◌, List, length, Result, Ok, Err, Option, Some, None, All}
+use Rattle.std.specs.Prelude.{◌≡◌, ◌<◌, ◌≤◌, length, Result, Ok, Err, Option, Some}
 use Rattle.bv_terms.specs.declared.op.TermId.{TermId}
-use Rattle.bv_terms.specs.Term.{Term, Operands, End, Then}
+use Rattle.bv_terms.specs.Term.{Term}
 use Rattle.bv_terms.specs.Table.{Table, term_at}
 use Rattle.isel_spec.specs.declared.small_form.fault.FirstFault.{FirstFault}
 use Rattle.isel_spec.specs.declared.small_form.fault.FirstFault.TheVariants.{Outside, NoMemory}

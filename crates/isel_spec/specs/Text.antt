@@ -1,6 +1,6 @@
 -- The words of a file's text: numerals, names and literals. Literals are those of SMT-LIB 2.6, section 3.1; the rest is
 -- this project's own.
-use Rattle.std.specs.Prelude.{ℕ, ◌+◌, ◌-◌, ◌*◌, ◌^◌, List, [], ◌∷◌, length, fold, map, Option, Some, None, Bool, true}
+use Rattle.std.specs.Prelude.{ℕ, ◌+◌, ◌-◌, ◌*◌, ◌^◌, List, [], ◌∷◌, length, fold, map, Option, Some, None, Bool}
 use Rattle.std.specs.Prelude.{false, ◌&&◌, ◌||◌, ◌==◌, not, nat_le, if◌then◌else◌, codes, option_and_then, option_map}
 use Rattle.std.specs.List.{list_all}
 use Rattle.std.specs.Str.{bytes_eq}

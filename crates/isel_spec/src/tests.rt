@@ -315,7 +315,7 @@ fn file_of(
 #[test]
 fn limits_are_met_and_no_more(rt: HostRuntime) -> Result<(), Fail> {
     let alloc = rt.alloc();
-    let room = FILE_LIMIT - file_of(alloc, 1, 0, 1, 0)?.len();
+    let room = FILE_LIMIT.saturating_sub(file_of(alloc, 1, 0, 1, 0)?.len());
     let cases = [
         ("6 operations", 6, 0, 1, 0, true),
         ("7 operations", 7, 0, 1, 0, false),

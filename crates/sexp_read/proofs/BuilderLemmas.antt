@@ -39,16 +39,16 @@ nothing-open ts builder empty built = none-open ts (open-as-built ts builder bui
 
 pub has-word : (old mid new : Builder) (number from to : ℕ) →
     mid.items.items ≡ old.items.items ++ atom from to ∷ [] → mid.unclosed.items ≡ old.unclosed.items
-        → mid.outermost ≡ old.outermost →
+    → mid.outermost ≡ old.outermost →
     number ≡ length old.items.items → AddsMember mid new number →
     (ts : List Token) (word : List ℕ) → from + length word ≡ to → HasBuilt ts old
-        → HasBuilt (ts ++ Atom from word ∷ []) new
+    → HasBuilt (ts ++ Atom from word ∷ []) new
 has-word old mid new number from to items opened outermost is-count adds ts word span built =
     let trees : Partial = built.trees in
     let at : number ≡ count trees = is-count ∙ ap length built.items ∙ length-items_in trees in
     let adds' : AddsMember mid new (count trees) = subst (AddsMember mid new) at adds in
     let after = adds-member trees (Word from word) mid new (opened ∙ built.opened) (outermost ∙ built.outermost) adds'
-        in
+    in
     record {
       trees = add trees (Word from word);
       spelling = spelled-add trees (Word from word) ∙ ap (λ us. us ++ Atom from word ∷ []) built.spelling;
@@ -62,7 +62,7 @@ has-word old mid new number from to items opened outermost is-count adds ts word
 pub has-open : (old new : Builder) (number place : ℕ) (members : List ℕ) → members ≡ [] →
     new.items.items ≡ old.items.items ++ atom place place ∷ [] → number ≡ length old.items.items →
     new.unclosed.items ≡ old.unclosed.items ++ record { number = number; from = place; members = members } ∷ []
-        → new.outermost ≡ old.outermost →
+    → new.outermost ≡ old.outermost →
     length old.unclosed.items < depth_limit →
     (ts : List Token) → HasBuilt ts old → HasBuilt (ts ++ Open place ∷ []) new
 has-open old new number place members no-members items is-count opened outermost room ts built =
@@ -76,7 +76,7 @@ has-open old new number place members no-members items is-count opened outermost
       items = items ∙ ap (λ is. is ++ atom place place ∷ []) built.items;
       opened = opened ∙ ap (λ ls. ls ++ record { number = number; from = place; members = members } ∷ []) built.opened
           ∙ ap (λ (ms : List ℕ). open_in trees ++ record { number = number; from = place; members = ms } ∷ [])
-              no-members
+          no-members
           ∙ ap (λ (n : ℕ). open_in trees ++ record { number = n; from = place; members = [] } ∷ []) at;
       outermost = outermost ∙ built.outermost;
     }
@@ -102,14 +102,14 @@ pub number-in : (old : Builder) (front : List OpenList) (last : OpenList) → ol
 number-in old front last popped ts built =
     let inner : IsInnermost built.trees front last = innermost built.trees front last (sym popped ∙ built.opened) in
     let all = ap length built.items ∙ ap (λ t. length (items_in t)) inner.whole
-        ∙ length-items_in (Inside inner.outer inner.place inner.members) in
+    ∙ length-items_in (Inside inner.outer inner.place inner.members) in
     let number : last.number ≡ count inner.outer = ap (λ (l : OpenList). l.number) inner.itself in
     omega arith
 
 pub has-close : (old mid new : Builder) (front : List OpenList) (last : OpenList) (to : ℕ) →
     old.unclosed.items ≡ front ++ last ∷ [] →
     mid.items.items ≡ set old.items.items last.number (list last.from to last.members) → mid.unclosed.items ≡ front
-        → mid.outermost ≡ old.outermost →
+    → mid.outermost ≡ old.outermost →
     AddsMember mid new last.number →
     (ts : List Token) → HasBuilt ts old → HasBuilt (ts ++ Close to ∷ []) new
 has-close old mid new front last to popped items opened outermost adds ts built =
@@ -120,11 +120,11 @@ has-close old mid new front last to popped items opened outermost adds ts built 
     let whole : built.trees ≡ Inside outer place members = inner.whole in
     let tree : Tree = Branch place to members in
     let after = adds-member outer tree mid new (opened ∙ inner.others)
-        (outermost ∙ built.outermost ∙ ap outermost_in whole)
-        (subst (AddsMember mid new) (ap (λ (l : OpenList). l.number) inner.itself) adds) in
+    (outermost ∙ built.outermost ∙ ap outermost_in whole)
+    (subst (AddsMember mid new) (ap (λ (l : OpenList). l.number) inner.itself) adds) in
     let spelling : spelled (Inside outer place members) ≡ ts = ap spelled (sym whole) ∙ built.spelling in
     let open-now : place ∷ open_places outer ≡ open_lists ts = sym (open_lists-spelled (Inside outer place members))
-        ∙ ap open_lists spelling in
+    ∙ ap open_lists spelling in
     record {
       trees = add outer tree;
       spelling = spelled-add outer tree ∙ sym (append_assoc (spelled outer) (Open place ∷ _) (Close to ∷ []))
@@ -134,7 +134,7 @@ has-close old mid new front last to popped items opened outermost adds ts built 
       items = adds.items ∙ items
           ∙ ap (λ is. set is last.number (list last.from to last.members)) (built.items ∙ ap items_in whole)
           ∙ ap (λ (l : OpenList). set (items_in (Inside outer place members)) l.number (list l.from to l.members))
-              inner.itself
+          inner.itself
           ∙ items_in-close outer place to members;
       opened = after.0;
       outermost = after.1;
@@ -146,14 +146,14 @@ pub add-inner : (opened : List OpenList) (n : ℕ) (found : OpenList) (members :
     found ≡ slice_index_or opened (n - 1) found → members ≡ found.members ++ number ∷ [] →
     (front : List OpenList) (last : OpenList) → opened ≡ front ++ last ∷ [] →
     slice_set opened (n - 1) (record { number = found.number; from = found.from; members = members })
-        ≡ front ++ with_member last number ∷ []
+    ≡ front ++ with_member last number ∷ []
 add-inner opened n found members number len is-found is-members front last e =
     let before : length front ≡ n - 1 = omega (arith, length_push front last, ap length e) in
     let same : found ≡ last = is-found ∙ ap (λ ls. slice_index_or ls (n - 1) found) e
-        ∙ get_or_at front last [] found (n - 1) before in
+    ∙ get_or_at front last [] found (n - 1) before in
     let changed : record { number = found.number; from = found.from; members = members } ≡ with_member last number =
     ap (λ (ms : List ℕ). record { number = found.number; from = found.from; members = ms }) is-members
-        ∙ ap (λ (l : OpenList). with_member l number) same in
+    ∙ ap (λ (l : OpenList). with_member l number) same in
     ap (λ ls. slice_set ls (n - 1) (record { number = found.number; from = found.from; members = members })) e
     ∙ set_at front last [] _ (n - 1) before ∙ ap (λ (l : OpenList). front ++ l ∷ []) changed
 
@@ -168,7 +168,7 @@ outermost-open (Inside outer place members) first rest e = below (open_in outer)
 
     below : (others : List OpenList) → open_in outer ≡ others →
         ((first : OpenList) (rest : List OpenList) → open_in outer ≡ first ∷ rest
-            → (inner : List ℕ) × (open_places outer ≡ inner ++ first.from ∷ [])) →
+        → (inner : List ℕ) × (open_places outer ≡ inner ++ first.from ∷ [])) →
         (inner : List ℕ) × (place ∷ open_places outer ≡ inner ++ first.from ∷ [])
     below [] none deeper =
         let ends : last ∷ [] ≡ first ∷ rest = ap (λ (ls : List OpenList). ls ++ last ∷ []) (sym none) ∙ e in
@@ -207,6 +207,10 @@ holds-all builder forest none items outermost ts built =
     closed (Root trees) spelling opened is ns =
         record { trees = trees; spelling = spelling; items = items ∙ is; outermost = outermost ∙ ns }
     closed (Inside outer place members) spelling opened is ns =
-        absurd (omega (arith, ap length opened, none,
-            length-append (open_in outer)
-            (record { number = count outer; from = place; members = places (count outer + 1) members } ∷ [])))
+        absurd (omega (
+          arith,
+          ap length opened,
+          none,
+          length-append (open_in outer)
+              (record { number = count outer; from = place; members = places (count outer + 1) members } ∷ []),
+        ))

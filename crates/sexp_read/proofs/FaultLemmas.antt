@@ -78,7 +78,7 @@ mutual
   trees-faultless (Then tree trees) opened rest le h =
       subst (IsFaultless opened) (sym (append_assoc (tree_tokens tree) (flatten trees) rest))
       (tree-faultless tree opened (flatten trees ++ rest) (omega arith)
-          (trees-faultless trees opened rest (omega arith) h))
+      (trees-faultless trees opened rest (omega arith) h))
 
 mutual
   tree-shallow : (tree : Tree) (opened : List ℕ) (rest : List Token) → length opened ≤ depth_limit
@@ -96,7 +96,7 @@ mutual
   trees-shallow End opened rest le h = (omega arith, h)
   trees-shallow (Then tree trees) opened rest le h =
       let first = tree-shallow tree opened (flatten trees ++ rest) le
-          (subst (IsFaultless opened) (append_assoc (tree_tokens tree) (flatten trees) rest) h) in
+      (subst (IsFaultless opened) (append_assoc (tree_tokens tree) (flatten trees) rest) h) in
       let others = trees-shallow trees opened rest le first.1 in
       (omega (arith, first.0, others.0), others.1)
 
@@ -127,7 +127,7 @@ mutual
       let rest : (flatten members ++ Close to ∷ []) ++ xs ≡ (flatten members' ++ Close to' ∷ []) ++ ys = cc in
       let inner = trees-one members members' (Close to ∷ xs) (Close to' ∷ ys) tt tt
       (sym (append_assoc (flatten members) (Close to ∷ []) xs) ∙ rest
-          ∙ append_assoc (flatten members') (Close to' ∷ []) ys) in
+      ∙ append_assoc (flatten members') (Close to' ∷ []) ys) in
       let same : members ≡ members' = inner.0 in
       let ends : Close to ∷ xs ≡ Close to' ∷ ys = inner.1 in
       (cc, cc)
@@ -141,7 +141,7 @@ mutual
       absurd (ended-apart tree (flatten trees ++ xs) ys q (sym e ∙ append_assoc (tree_tokens tree) (flatten trees) xs))
   trees-one (Then a as') (Then b bs) xs ys p q e =
       let first = tree-one a b (flatten as' ++ xs) (flatten bs ++ ys)
-          (sym (append_assoc (tree_tokens a) (flatten as') xs) ∙ e ∙ append_assoc (tree_tokens b) (flatten bs) ys) in
+      (sym (append_assoc (tree_tokens a) (flatten as') xs) ∙ e ∙ append_assoc (tree_tokens b) (flatten bs) ys) in
       let others = trees-one as' bs xs ys p q first.1 in
       let same : a ≡ b = first.0 in
       let rest : as' ≡ bs = others.0 in
@@ -157,7 +157,7 @@ reading-unique bytes a b x y =
     let items : a.items ≡ b.items = x.1.items ∙ ap (items_of 0) same ∙ sym y.1.items in
     let outermost : a.outermost ≡ b.outermost = x.1.outermost ∙ ap (places 0) same ∙ sym y.1.outermost in
     let changed : a ≡ record a { items = b.items } =
-        ap (λ (is : List Item). record { items = is; outermost = a.outermost }) items in
+    ap (λ (is : List Item). record { items = is; outermost = a.outermost }) items in
     changed ∙ ap (λ (ns : List ℕ). record { items = b.items; outermost = ns }) outermost
 
 -- a place that comes before another is not after it
@@ -177,13 +177,13 @@ none-earlier bytes ts mode place faultless spelling text (Stray k) h =
       | inr found ↦
           let here : place < k + 1 = all-in-middle (IsFrom place) found.0 (Close (k + 1)) h.1.after
           (subst (AllByRecursion (IsFrom place)) found.1 (tokens_from-from mode place (drop place bytes))) in
-              omega arith
+          omega arith
     ]
 none-earlier bytes ts mode place faultless spelling text (Deep k) h =
     elim (in-either ts _ h.0 (Open k) h.1.after (sym spelling ∙ h.1.spelled)) [
       | inl found ↦
           let few : length (open_lists h.0) < depth_limit =
-              not-deep h.0 k found.0 (subst (IsFaultless []) found.1 faultless) in absurd (omega (arith, h.2))
+          not-deep h.0 k found.0 (subst (IsFaultless []) found.1 faultless) in absurd (omega (arith, h.2))
       | inr found ↦ all-in-middle (IsFrom place) found.0 (Open k) h.1.after
           (subst (AllByRecursion (IsFrom place)) found.1 (tokens_from-from mode place (drop place bytes)))
     ]
@@ -196,7 +196,7 @@ text-at : (bytes : List ℕ) (k b : ℕ) → IsTrue (list_all is_text_byte bytes
 text-at bytes k b all e =
     let within : k < length bytes = slice_get_within bytes k b e in
     ap is_text_byte (sym (get_or_from_slice_get bytes k b b e))
-        ∙ AllPass-from_list_all is_text_byte bytes all k b within
+    ∙ AllPass-from_list_all is_text_byte bytes all k b within
 
 pub none-stands : (bytes : List ℕ) → IsTrue (list_all is_text_byte bytes) → IsFaultless [] (tokens bytes)
     → (fault : SexpFault) → StandsIn bytes fault → ⊥
@@ -205,7 +205,7 @@ none-stands bytes text faultless (Stray k) h =
     no-stray h.0 (k + 1) h.1.after (subst (IsFaultless []) h.1.spelled faultless) h.2
 none-stands bytes text faultless (Deep k) h =
     let few : length (open_lists h.0) < depth_limit =
-        not-deep h.0 k h.1.after (subst (IsFaultless []) h.1.spelled faultless) in omega (arith, h.2)
+    not-deep h.0 k h.1.after (subst (IsFaultless []) h.1.spelled faultless) in omega (arith, h.2)
 none-stands bytes text faultless (Unclosed k) h = h
 none-stands bytes text faultless NoMemory h = h
 
@@ -213,7 +213,7 @@ reading-tokens : (bytes : List ℕ) (trees : Trees) → tokens bytes ≡ flatten
     → IsFaultless [] (tokens bytes)
 reading-tokens bytes trees spelled nested =
     subst (IsFaultless []) (append-nil (flatten trees) ∙ sym spelled)
-        (trees-faultless trees [] [] (omega (arith, nested)) tt)
+    (trees-faultless trees [] [] (omega (arith, nested)) tt)
 
 pub reading-faultless : (bytes : List ℕ) (forest : Forest) (fault : SexpFault) → IsReading bytes forest
     → IsFault bytes fault → ⊥
@@ -228,7 +228,7 @@ reading-faultless bytes forest fault reading h = faults fault h
     faults (Deep k) h = none (Deep k) h.0
     faults (Unclosed k) h =
         let closed : h.1.0 ++ k ∷ [] ≡ [] = sym h.1.1 ∙ ap open_lists reading.1.spelled
-            ∙ open_lists-flatten reading.0 [] in
+        ∙ open_lists-flatten reading.0 [] in
         omega (arith, ap length closed, length-append h.1.0 (k ∷ []))
     faults NoMemory h = h
 
@@ -294,7 +294,7 @@ abbrev FaultView : List ℕ → SexpFault → Type 0
 FaultView bytes fault =
     (StandsIn bytes fault × ((other : SexpFault) → StandsIn bytes other → place_of fault ≤ place_of other))
     ⊎ ((k : ℕ) × (fault ≡ Unclosed k) × ((other : SexpFault) → StandsIn bytes other → ⊥)
-        × ((inner : List ℕ) × (open_lists (tokens bytes) ≡ inner ++ k ∷ [])))
+    × ((inner : List ℕ) × (open_lists (tokens bytes) ≡ inner ++ k ∷ [])))
 
 fault-view : (bytes : List ℕ) (fault : SexpFault) → IsFault bytes fault → FaultView bytes fault
 fault-view bytes (NotText k) h = inl h

@@ -54,7 +54,7 @@ mutual
   tree-in bytes place (Word first word) rest h = ((h.0, h.1, h.2), h.3)
   tree-in bytes place (Branch from to members) rest h =
       let inner = trees-in bytes (from + 1) members (Close to ∷ rest)
-          (subst (Spans bytes (from + 1)) (append_assoc (flatten members) (Close to ∷ []) rest) h.2) in
+      (subst (Spans bytes (from + 1)) (append_assoc (flatten members) (Close to ∷ []) rest) h.2) in
       let later = ends-later bytes (from + 1) members inner.0 in
       ((h.0, omega arith, omega (arith, slice_get_within bytes (to - 1) 41 inner.1.1), inner.0), inner.1.2)
 
@@ -64,7 +64,7 @@ mutual
   trees-in bytes place End rest h = (tt, h)
   trees-in bytes place (Then tree trees) rest h =
       let first = tree-in bytes place tree (flatten trees ++ rest)
-          (subst (Spans bytes place) (append_assoc (tree_tokens tree) (flatten trees) rest) h) in
+      (subst (Spans bytes place) (append_assoc (tree_tokens tree) (flatten trees) rest) h) in
       let others = trees-in bytes (end_of tree) trees rest first.1 in
       ((first.0, others.0), others.1)
 
@@ -76,10 +76,11 @@ forest-in bytes trees e =
 mutual
   denotes-tree : (bytes : List ℕ) (items before after : List Item) (number place : ℕ) (tree : Tree) →
       items ≡ before ++ (tree_items number tree ++ after) → length before ≡ number → TreeIn bytes place tree
-          → Denotes bytes items number tree
-  denotes-tree bytes items before after number place (Word first word) e n h =
-      (ap (λ is. slice_get is number) e ∙ slice_get-middle before (atom first (first + length word)) after number n,
-          h.2)
+      → Denotes bytes items number tree
+  denotes-tree bytes items before after number place (Word first word) e n h = (
+    ap (λ is. slice_get is number) e ∙ slice_get-middle before (atom first (first + length word)) after number n,
+    h.2,
+  )
   denotes-tree bytes items before after number place (Branch from to members) e n h =
       let item : Item = list from to (places (number + 1) members) in (
         places (number + 1) members,
@@ -87,17 +88,17 @@ mutual
             ∙ slice_get-middle before item (items_of (number + 1) members ++ after) number n,
         denotes-trees bytes items (before ++ item ∷ []) after (number + 1) (from + 1) members
             (e ∙ append-move before item (items_of (number + 1) members ++ after))
-                (omega (arith, length_push before item)) h.3,
+            (omega (arith, length_push before item)) h.3,
       )
 
   denotes-trees : (bytes : List ℕ) (items before after : List Item) (number place : ℕ) (trees : Trees) →
       items ≡ before ++ (items_of number trees ++ after) → length before ≡ number → TreesIn bytes place trees
-          → DenoteAll bytes items (places number trees) trees
+      → DenoteAll bytes items (places number trees) trees
   denotes-trees bytes items before after number place End e n h = tt
   denotes-trees bytes items before after number place (Then tree trees) e n h =
       let others = items_of (number + tree_size tree) trees in
       let split : items ≡ before ++ (tree_items number tree ++ (others ++ after)) =
-          e ∙ ap (λ is. before ++ is) (append_assoc (tree_items number tree) others after) in (
+      e ∙ ap (λ is. before ++ is) (append_assoc (tree_items number tree) others after) in (
         denotes-tree bytes items before (others ++ after) number place tree split n h.0,
         denotes-trees bytes items (before ++ tree_items number tree) after (number + tree_size tree) (end_of tree) trees
             (split ∙ sym (append_assoc before (tree_items number tree) (others ++ after)))
@@ -110,7 +111,7 @@ pub forest-denotes : (bytes : List ℕ) (trees : Trees) (forest : Forest) → Is
 forest-denotes bytes trees forest h =
     subst (λ numbers. DenoteAll bytes forest.items numbers trees) (sym h.outermost)
     (denotes-trees bytes forest.items [] [] 0 0 trees (h.items ∙ sym (append-nil (items_of 0 trees))) refl
-        (forest-in bytes trees h.spelled))
+    (forest-in bytes trees h.spelled))
 
 same-item : (x y : Item) → Some x ≡ Some y → (x.from ≡ y.from) × (x.to ≡ y.to) × (x.body ≡ y.body)
 same-item x y e =
@@ -140,8 +141,8 @@ mutual
       let body : body.List x.0 ≡ body.List y.0 = same.2 in
       let children : x.0 ≡ y.0 = cc in
       let inner : members ≡ members' =
-          denote-all-one bytes items x.0 members members' x.2
-          (subst (λ numbers. DenoteAll bytes items numbers members') (sym children) y.2) in
+      denote-all-one bytes items x.0 members members' x.2
+      (subst (λ numbers. DenoteAll bytes items numbers members') (sym children) y.2) in
       cc
 
   pub denote-all-one : (bytes : List ℕ) (items : List Item) (numbers : List ℕ) (a b : Trees)
@@ -172,14 +173,14 @@ mutual
   trees-within bytes number place End h = tt
   trees-within bytes number place (Then tree trees) h =
       all-append (HasSpanWithin bytes) (tree_items number tree) _ (tree-within bytes number place tree h.0)
-          (trees-within bytes (number + tree_size tree) (end_of tree) trees h.1)
+      (trees-within bytes (number + tree_size tree) (end_of tree) trees h.1)
 
 pub item-within : (bytes : List ℕ) (forest : Forest) → IsReading bytes forest → (k : ℕ) (item : Item)
     → slice_get forest.items k ≡ Some item → HasSpanWithin bytes item
 item-within bytes forest reading k item e =
     all-at (HasSpanWithin bytes) forest.items k item
     (subst (AllByRecursion (HasSpanWithin bytes)) (sym reading.1.items)
-        (trees-within bytes 0 0 reading.0 (forest-in bytes reading.0 reading.1.spelled))) e
+    (trees-within bytes 0 0 reading.0 (forest-in bytes reading.0 reading.1.spelled))) e
 
 -- the children of an item come after it, and before a bound
 abbrev pub IsBetween : ℕ → ℕ → ℕ → Type 0
@@ -210,9 +211,10 @@ mutual
   tree-later : (bound number : ℕ) (tree : Tree) → number + tree_size tree ≤ bound
       → Later bound number (tree_items number tree)
   tree-later bound number (Word first word) h = (tt, tt)
-  tree-later bound number (Branch from to members) h =
-      (places-between bound number (number + 1) members (omega arith) (omega arith),
-          trees-later bound (number + 1) members (omega arith))
+  tree-later bound number (Branch from to members) h = (
+    places-between bound number (number + 1) members (omega arith) (omega arith),
+    trees-later bound (number + 1) members (omega arith),
+  )
 
   trees-later : (bound number : ℕ) (trees : Trees) → number + size trees ≤ bound
       → Later bound number (items_of number trees)
@@ -220,7 +222,7 @@ mutual
   trees-later bound number (Then tree trees) h =
       later-append bound number (tree_items number tree) _ (tree-later bound number tree (omega arith))
       (subst (λ n. Later bound n (items_of (number + tree_size tree) trees))
-          (ap (λ n. number + n) (sym (length-tree_items number tree)))
+      (ap (λ n. number + n) (sym (length-tree_items number tree)))
       (trees-later bound (number + tree_size tree) trees (omega arith)))
 
 later-at : (bound number : ℕ) (items : List Item) (k : ℕ) (item : Item) → Later bound number items
@@ -229,21 +231,21 @@ later-at bound number [] k item h e = absurd (cc)
 later-at bound number (x ∷ items) zero item h e =
     let same : x ≡ item = cc in
     subst (λ n. LaterBody bound n item.body) (omega arith)
-        (subst (λ (i : Item). LaterBody bound number i.body) same h.0)
+    (subst (λ (i : Item). LaterBody bound number i.body) same h.0)
 later-at bound number (x ∷ items) (suc k) item h e =
     subst (λ n. LaterBody bound n item.body) (omega arith) (later-at bound (number + 1) items k item h.1 e)
 
 pub children-later : (bytes : List ℕ) (forest : Forest) → IsReading bytes forest
     → (k : ℕ) (item : Item) (children : List ℕ) →
     slice_get forest.items k ≡ Some item → item.body ≡ body.List children
-        → AllByRecursion (IsBetween k (length forest.items)) children
+    → AllByRecursion (IsBetween k (length forest.items)) children
 children-later bytes forest reading k item children e is-list =
     let all : Later (length forest.items) 0 forest.items = subst (Later (length forest.items) 0) (sym reading.1.items)
     (trees-later (length forest.items) 0 reading.0
-        (omega (arith, ap length reading.1.items, length-items_of 0 reading.0))) in
+    (omega (arith, ap length reading.1.items, length-items_of 0 reading.0))) in
     subst (λ n. AllByRecursion (IsBetween n (length forest.items)) children) (omega arith)
     (subst (LaterBody (length forest.items) (0 + k)) is-list
-        (later-at (length forest.items) 0 forest.items k item all e))
+    (later-at (length forest.items) 0 forest.items k item all e))
 
 -- an item that was read at its number
 pub item-at : (items : List Item) (k : ℕ) (item : Item) → item ≡ slice_index_or items k item → k < length items

@@ -26,7 +26,7 @@ pub slice_get-middle : {X : Type 0} (before : List X) (x : X) (after : List X) (
     → slice_get (before ++ x ∷ after) k ≡ Some x
 slice_get-middle before x after k e =
     slice_get-get_or (before ++ x ∷ after) k x (omega (arith, length-append before (x ∷ after)))
-        ∙ ap Some (get_or_at before x after x k e)
+    ∙ ap Some (get_or_at before x after x k e)
 
 pub append-move : {X : Type 0} (before : List X) (x : X) (after : List X)
     → before ++ x ∷ after ≡ (before ++ x ∷ []) ++ after
@@ -50,6 +50,6 @@ slice_range-more {X} xs from k x le e =
     let within : k < length xs = slice_get_within xs k x e in
     let len = length-drop from xs in
     let here : get_or (drop from xs) (k - from) x ≡ x =
-        get_or-drop from xs (k - from) x ∙ ap (λ n. get_or xs n x) (omega arith) ∙ get_or_from_slice_get xs k x x e in
+    get_or-drop from xs (k - from) x ∙ ap (λ n. get_or xs n x) (omega arith) ∙ get_or_from_slice_get xs k x x e in
     ap (λ n. take n (drop from xs)) (omega arith) ∙ take_more (drop from xs) (k - from) x (omega arith)
-        ∙ ap (λ y. take (k - from) (drop from xs) ++ y ∷ []) here
+    ∙ ap (λ y. take (k - from) (drop from xs) ++ y ∷ []) here

@@ -20,7 +20,7 @@ pub spelled-add : (trees : Partial) (tree : Tree) → spelled (add trees tree) �
 spelled-add (Root trees) tree = flatten-grown trees tree
 spelled-add (Inside outer place members) tree =
     ap (λ ts. spelled outer ++ Open place ∷ ts) (flatten-grown members tree)
-        ∙ sym (append_assoc (spelled outer) (Open place ∷ flatten members) (tree_tokens tree))
+    ∙ sym (append_assoc (spelled outer) (Open place ∷ flatten members) (tree_tokens tree))
 
 pub length-items_in : (trees : Partial) → length (items_in trees) ≡ count trees
 length-items_in (Root trees) = length-items_of 0 trees
@@ -35,24 +35,26 @@ items_in-add (Root trees) tree =
 items_in-add (Inside outer place members) tree =
     ap (λ is. items_in outer ++ atom place place ∷ is) (items_of-grown (count outer + 1) members tree)
     ∙ sym (append_assoc (items_in outer) (atom place place ∷ items_of (count outer + 1) members)
-        (tree_items (count outer + 1 + size members) tree))
+    (tree_items (count outer + 1 + size members) tree))
 
 -- the item of an open list becomes the whole list
 pub items_in-close : (outer : Partial) (place to : ℕ) (members : Trees) →
     set (items_in (Inside outer place members)) (count outer) (list place to (places (count outer + 1) members))
-        ≡ items_in (add outer (Branch place to members))
+    ≡ items_in (add outer (Branch place to members))
 items_in-close outer place to members =
     set_at (items_in outer) (atom place place) (items_of (count outer + 1) members)
-        (list place to (places (count outer + 1) members)) (count outer) (length-items_in outer)
+    (list place to (places (count outer + 1) members)) (count outer) (length-items_in outer)
     ∙ sym (items_in-add outer (Branch place to members))
 
 pub adds-member : (trees : Partial) (tree : Tree) (old new : Builder) →
     old.unclosed.items ≡ open_in trees → old.outermost ≡ outermost_in trees → AddsMember old new (count trees) →
     (new.unclosed.items ≡ open_in (add trees tree)) × (new.outermost ≡ outermost_in (add trees tree))
 adds-member (Root trees) tree old new opened outermost adds =
-    let after = adds.outer opened in
-    (after.0, after.1 ∙ ap (λ ns. ns ++ size trees ∷ []) outermost
-        ∙ sym (places-grown 0 trees tree ∙ ap (λ n. places 0 trees ++ n ∷ []) (zero-add (size trees))))
+    let after = adds.outer opened in (
+      after.0,
+      after.1 ∙ ap (λ ns. ns ++ size trees ∷ []) outermost
+          ∙ sym (places-grown 0 trees tree ∙ ap (λ n. places 0 trees ++ n ∷ []) (zero-add (size trees))),
+    )
 adds-member (Inside outer place members) tree old new opened outermost adds =
     let after = adds.inner _ _ opened in (
       after.0 ∙ ap (λ (ns : List ℕ). open_in outer ++ record { number = count outer; from = place; members = ns } ∷ [])
@@ -80,14 +82,14 @@ mutual
   tree-closed (Word first word) opened rest = refl
   tree-closed (Branch from to members) opened rest =
       ap (open_after (from ∷ opened)) (append_assoc (flatten members) (Close to ∷ []) rest)
-          ∙ trees-closed members (from ∷ opened) (Close to ∷ rest)
+      ∙ trees-closed members (from ∷ opened) (Close to ∷ rest)
 
   pub trees-closed : (trees : Trees) (opened : List ℕ) (rest : List Token)
       → open_after opened (flatten trees ++ rest) ≡ open_after opened rest
   trees-closed End opened rest = refl
   trees-closed (Then tree trees) opened rest =
       ap (open_after opened) (append_assoc (tree_tokens tree) (flatten trees) rest)
-          ∙ tree-closed tree opened (flatten trees ++ rest) ∙ trees-closed trees opened rest
+      ∙ tree-closed tree opened (flatten trees ++ rest) ∙ trees-closed trees opened rest
 
 pub open_lists-flatten : (trees : Trees) (opened : List ℕ) → open_after opened (flatten trees) ≡ opened
 open_lists-flatten trees opened = ap (open_after opened) (sym (append-nil (flatten trees)))
@@ -103,9 +105,12 @@ open_lists-spelled (Inside outer place members) =
 pub length-open_places : (trees : Partial) → length (open_places trees) ≡ length (open_in trees)
 length-open_places (Root trees) = refl
 length-open_places (Inside outer place members) =
-    omega (arith, length-open_places outer,
-        length-append (open_in outer)
-        (record { number = count outer; from = place; members = places (count outer + 1) members } ∷ []))
+    omega (
+      arith,
+      length-open_places outer,
+      length-append (open_in outer)
+          (record { number = count outer; from = place; members = places (count outer + 1) members } ∷ []),
+    )
 
 pub faultless-append : (opened : List ℕ) (ts us : List Token) → IsFaultless opened ts
     → IsFaultless (open_after opened ts) us → IsFaultless opened (ts ++ us)

@@ -33,18 +33,18 @@ pub rest-at : (bytes : List ℕ) (place b : ℕ) → slice_get bytes place ≡ S
     → drop place bytes ≡ b ∷ drop (place + 1) bytes
 rest-at bytes place b here =
     drop_more bytes place b (slice_get_within bytes place b here)
-        ∙ ap (λ x. x ∷ drop (place + 1) bytes) (get_or_from_slice_get bytes place b b here)
+    ∙ ap (λ x. x ∷ drop (place + 1) bytes) (get_or_from_slice_get bytes place b b here)
 
 text-more : (bytes : List ℕ) (place b : ℕ) → slice_get bytes place ≡ Some b → is_text_byte b ≡ true →
     ((k c : ℕ) → k < place → slice_get bytes k ≡ Some c → is_text_byte c ≡ true) → (k c : ℕ) → k < place + 1
-        → slice_get bytes k ≡ Some c → is_text_byte c ≡ true
+    → slice_get bytes k ≡ Some c → is_text_byte c ≡ true
 text-more bytes place b here text before k c lt e =
     elim (cases_lt k place) [
       | inl lt ↦ before k c lt e
       | inr le ↦
           let at : k ≡ place = omega arith in
           let same : b ≡ c = some-one (sym here ∙ ap (slice_get bytes) (sym at) ∙ e) in
-              ap is_text_byte (sym same) ∙ text
+          ap is_text_byte (sym same) ∙ text
     ]
   where
     some-one : {x y : ℕ} → Some x ≡ Some y → x ≡ y
@@ -65,11 +65,11 @@ read-none bytes new built nothing =
 -- a byte more has been read, where the builder takes the tokens that it completes
 pub read-more : (bytes : List ℕ) (place : ℕ) (old new : Reader) (before : Pending) (class : Class) (us : List Token) →
     HasRead bytes place old → (h : HasClass bytes place class) → old.pending ≡ before
-        → tokens_at (mode_of bytes place before) class place ≡ us →
+    → tokens_at (mode_of bytes place before) class place ≡ us →
     ((ts : List Token) → HasBuilt ts old.builder → HasBuilt (ts ++ us) new.builder) →
     (after : Pending) → new.pending ≡ after
-        → mode_of bytes (place + 1) after ≡ mode_after (mode_of bytes place before) class place h.byte
-        → BeganBefore (place + 1) after →
+    → mode_of bytes (place + 1) after ≡ mode_after (mode_of bytes place before) class place h.byte
+    → BeganBefore (place + 1) after →
     HasRead bytes (place + 1) new
 read-more bytes place old new before class us read h was us-are builds after is modes began =
     let mode : Mode = mode_of bytes place before in
@@ -77,9 +77,9 @@ read-more bytes place old new before class us read h was us-are builds after is 
     let here : drop place bytes ≡ h.byte ∷ rest = rest-at bytes place h.byte h.here in
     let old-mode : mode_of bytes place old.pending ≡ mode = ap (mode_of bytes place) was in
     let new-mode : mode_after mode class place h.byte ≡ mode_of bytes (place + 1) new.pending =
-        sym modes ∙ ap (mode_of bytes (place + 1)) (sym is) in
+    sym modes ∙ ap (mode_of bytes (place + 1)) (sym is) in
     let next : tokens_from (mode_of bytes place old.pending) place (drop place bytes)
-        ≡ us ++ tokens_from (mode_of bytes (place + 1) new.pending) (place + 1) rest =
+    ≡ us ++ tokens_from (mode_of bytes (place + 1) new.pending) (place + 1) rest =
     ap (λ m. tokens_from m place (drop place bytes)) old-mode ∙ ap (tokens_from mode place) here
     ∙ ap (λ k. tokens_at mode k place ++ tokens_from (mode_after mode k place h.byte) (place + 1) rest) h.of_class
     ∙ ap (λ us. us ++ tokens_from (mode_after mode class place h.byte) (place + 1) rest) us-are
@@ -96,16 +96,16 @@ read-more bytes place old new before class us read h was us-are builds after is 
 -- the same, where the byte completes no token
 pub read-same : (bytes : List ℕ) (place : ℕ) (old new : Reader) (before : Pending) (class : Class) →
     HasRead bytes place old → (h : HasClass bytes place class) → old.pending ≡ before
-        → tokens_at (mode_of bytes place before) class place ≡ [] →
+    → tokens_at (mode_of bytes place before) class place ≡ [] →
     new.builder ≡ old.builder →
     (after : Pending) → new.pending ≡ after
-        → mode_of bytes (place + 1) after ≡ mode_after (mode_of bytes place before) class place h.byte
-        → BeganBefore (place + 1) after →
+    → mode_of bytes (place + 1) after ≡ mode_after (mode_of bytes place before) class place h.byte
+    → BeganBefore (place + 1) after →
     HasRead bytes (place + 1) new
 read-same bytes place old new before class read h was none same after is modes began =
     read-more bytes place old new before class [] read h was none
     (λ ts built. subst (HasBuilt (ts ++ [])) (sym same)
-        (subst (λ us. HasBuilt us old.builder) (sym (append-nil ts)) built)) after is modes began
+    (subst (λ us. HasBuilt us old.builder) (sym (append-nil ts)) built)) after is modes began
 
 -- a word is its bytes so far and one more
 pub word-begins : (bytes : List ℕ) (place b : ℕ) → slice_get bytes place ≡ Some b
@@ -120,16 +120,16 @@ word-ends : (first : ℕ) (word : List ℕ) (place b : ℕ) (rest : List ℕ) (c
     tokens_from (Within first word) place (b ∷ rest) ≡ Atom first word ∷ tokens_from Between place (b ∷ rest)
 word-ends first word place b rest class e apart =
     ap (λ k. tokens_at (Within first word) k place ++ tokens_from (mode_after (Within first word) k place b)
-        (place + 1) rest) e
+    (place + 1) rest) e
     ∙ same class apart
     ∙ ap (λ k. Atom first word ∷
-        (tokens_at Between k place ++ tokens_from (mode_after Between k place b) (place + 1) rest)) (sym e)
+    (tokens_at Between k place ++ tokens_from (mode_after Between k place b) (place + 1) rest)) (sym e)
   where
     same : (class : Class) → class ≢ Letter →
         tokens_at (Within first word) class place ++ tokens_from (mode_after (Within first word) class place b)
-            (place + 1) rest
+        (place + 1) rest
         ≡ Atom first word ∷ (tokens_at Between class place ++ tokens_from (mode_after Between class place b)
-            (place + 1) rest)
+        (place + 1) rest)
     same Letter apart = absurd (apart refl)
     same Left apart = refl
     same Right apart = refl
@@ -145,7 +145,7 @@ word-span bytes first place lt le =
 pub read-word : (bytes : List ℕ) (place : ℕ) (old new : Reader) (first : ℕ) (class : Class) →
     HasRead bytes place old → HasClass bytes place class → class ≢ Letter → old.pending ≡ pending.Word first →
     ((ts : List Token) (word : List ℕ) → first + length word ≡ place → HasBuilt ts old.builder
-        → HasBuilt (ts ++ Atom first word ∷ []) new.builder) →
+    → HasBuilt (ts ++ Atom first word ∷ []) new.builder) →
     new.pending ≡ pending.Nothing → HasRead bytes place new
 read-word bytes place old new first class read h apart was builds is =
     let word : List ℕ = slice_range bytes first place in
@@ -153,7 +153,7 @@ read-word bytes place old new first class read h apart was builds is =
     let span = word-span bytes first place began (omega (arith, slice_get_within bytes place h.byte h.here)) in
     let here : drop place bytes ≡ h.byte ∷ drop (place + 1) bytes = rest-at bytes place h.byte h.here in
     let next : tokens_from (mode_of bytes place old.pending) place (drop place bytes)
-        ≡ Atom first word ∷ tokens_from (mode_of bytes place new.pending) place (drop place bytes) =
+    ≡ Atom first word ∷ tokens_from (mode_of bytes place new.pending) place (drop place bytes) =
     ap (λ (p : Pending). tokens_from (mode_of bytes place p) place (drop place bytes)) was
     ∙ ap (tokens_from (Within first word) place) here
     ∙ word-ends first word place h.byte (drop (place + 1) bytes) class h.of_class apart
@@ -175,12 +175,12 @@ pub read-to-end : (bytes : List ℕ) (place : ℕ) (reader : Reader) → length 
     tokens bytes ≡ read.ts ++ word_in (mode_of bytes place reader.pending)
 read-to-end bytes place reader e read =
     read.spelling ∙ ap (λ bs. read.ts ++ tokens_from (mode_of bytes place reader.pending) place bs)
-        (drop_all place bytes (omega arith))
+    (drop_all place bytes (omega arith))
 
 pub ends-in-word : (bytes : List ℕ) (place : ℕ) (reader : Reader) (first : ℕ) (builder : Builder) → length bytes ≡ place
     → HasRead bytes place reader → reader.pending ≡ pending.Word first →
     ((ts : List Token) (word : List ℕ) → first + length word ≡ place → HasBuilt ts reader.builder
-        → HasBuilt (ts ++ Atom first word ∷ []) builder) →
+    → HasBuilt (ts ++ Atom first word ∷ []) builder) →
     HasBuilt (tokens bytes) builder
 ends-in-word bytes place reader first builder e read was builds =
     let began : first < place = subst (BeganBefore place) was read.began in
@@ -194,7 +194,7 @@ pub ends-outside : (bytes : List ℕ) (place : ℕ) (reader : Reader) (before : 
 ends-outside bytes place reader before e read was none =
     subst (λ ts. HasBuilt ts reader.builder)
     (sym (read-to-end bytes place reader e read ∙ ap (λ (p : Pending). read.ts ++ word_in (mode_of bytes place p)) was
-        ∙ ap (λ us. read.ts ++ us) none ∙ append-nil read.ts))
+    ∙ ap (λ us. read.ts ++ us) none ∙ append-nil read.ts))
     read.built
 
 -- the first fault
@@ -218,30 +218,32 @@ next-token bytes place reader class token read h was is =
           (ap (λ (p : Pending). tokens_from (mode_of bytes place p) place (drop place bytes)) was
           ∙ ap (tokens_from Between place) (rest-at bytes place h.byte h.here)
           ∙ ap (λ k. tokens_at Between k place ++ tokens_from (mode_after Between k place h.byte) (place + 1)
-              (drop (place + 1) bytes)) h.of_class
+          (drop (place + 1) bytes)) h.of_class
           ∙ ap (λ us. us ++ tokens_from (mode_after Between class place h.byte) (place + 1) (drop (place + 1) bytes))
-              is);
+          is);
     }
 
 pub is-deep : (bytes : List ℕ) (place : ℕ) (reader : Reader) → HasRead bytes place reader → HasClass bytes place Left
     → reader.pending ≡ pending.Nothing →
     ((ts : List Token) → HasBuilt ts reader.builder → depth_limit ≤ length (open_lists ts)) → IsFault bytes (Deep place)
-is-deep bytes place reader read h was full =
-    ((read.ts, next-token bytes place reader Left (Open place) read h was refl, full read.ts read.built),
-        first-fault bytes place reader read)
+is-deep bytes place reader read h was full = (
+  (read.ts, next-token bytes place reader Left (Open place) read h was refl, full read.ts read.built),
+  first-fault bytes place reader read,
+)
 
 pub is-stray : (bytes : List ℕ) (place : ℕ) (reader : Reader) → HasRead bytes place reader → HasClass bytes place Right
     → reader.pending ≡ pending.Nothing →
     ((ts : List Token) → HasBuilt ts reader.builder → open_lists ts ≡ []) → IsFault bytes (Stray place)
-is-stray bytes place reader read h was none =
-    ((read.ts, next-token bytes place reader Right (Close (place + 1)) read h was refl, none read.ts read.built),
-        first-fault bytes place reader read)
+is-stray bytes place reader read h was none = (
+  (read.ts, next-token bytes place reader Right (Close (place + 1)) read h was refl, none read.ts read.built),
+  first-fault bytes place reader read,
+)
 
 pub refuses-deep : (old : Reader) (class : Class) (place : ℕ) (fault : SexpFault) → class ≡ Left
     → old.pending ≡ pending.Nothing →
     (fault ≡ NoMemory) ⊎ ((fault ≡ Deep place)
-        × ((ts : List Token) → HasBuilt ts old.builder → depth_limit ≤ length (open_lists ts)))
-        → Refuses old class place fault
+    × ((ts : List Token) → HasBuilt ts old.builder → depth_limit ≤ length (open_lists ts)))
+    → Refuses old class place fault
 refuses-deep old class place fault left nothing why =
     elim why [
       | inl memory ↦ inl memory
@@ -252,7 +254,7 @@ refuses-deep old class place fault left nothing why =
 pub refuses-stray : (old : Reader) (class : Class) (place : ℕ) (fault : SexpFault) → class ≡ Right
     → old.pending ≡ pending.Nothing →
     (fault ≡ NoMemory) ⊎ ((fault ≡ Stray place) × ((ts : List Token) → HasBuilt ts old.builder → open_lists ts ≡ []))
-        → Refuses old class place fault
+    → Refuses old class place fault
 refuses-stray old class place fault right nothing why =
     elim why [
       | inl memory ↦ inl memory
@@ -265,10 +267,10 @@ pub reads-blank : (old : Reader) (class : Class) (place : ℕ) → old.pending �
     → (class ≡ Blank) ⊎ (class ≡ LineFeed) → ReadsOn old class place old
 reads-blank old class place nothing (inl blank) bytes read here =
     read-same bytes place old old pending.Nothing Blank read
-        (subst (HasClass bytes place) blank here) nothing refl refl pending.Nothing nothing refl tt
+    (subst (HasClass bytes place) blank here) nothing refl refl pending.Nothing nothing refl tt
 reads-blank old class place nothing (inr feed) bytes read here =
     read-same bytes place old old pending.Nothing LineFeed read
-        (subst (HasClass bytes place) feed here) nothing refl refl pending.Nothing nothing refl tt
+    (subst (HasClass bytes place) feed here) nothing refl refl pending.Nothing nothing refl tt
 
 -- so does a letter in a word
 pub reads-letter : (old : Reader) (first place : ℕ) (class : Class) → old.pending ≡ pending.Word first → class ≡ Letter
@@ -276,7 +278,7 @@ pub reads-letter : (old : Reader) (first place : ℕ) (class : Class) → old.pe
 reads-letter old first place class was letter bytes read here =
     let began : first < place = subst (BeganBefore place) was read.began in
     read-same bytes place old old (pending.Word first) Letter read
-        (subst (HasClass bytes place) letter here) was refl refl (pending.Word first) was
+    (subst (HasClass bytes place) letter here) was refl refl (pending.Word first) was
     (ap (Within first) (slice_range-more bytes first place here.byte (omega arith) here.here)) (omega arith)
 
 -- and any byte but a line feed in a comment
@@ -292,21 +294,26 @@ pub reads-comment : (old : Reader) (class : Class) (place : ℕ) → old.pending
     → ReadsOn old class place old
 reads-comment old class place was apart bytes read here =
     read-same bytes place old old pending.Comment class read here was
-        (comment-none class place) refl pending.Comment was (comment-stays class place here.byte apart) tt
+    (comment-none class place) refl pending.Comment was (comment-stays class place here.byte apart) tt
 
 pub reads-line-feed : (old new : Reader) (class : Class) (place : ℕ) → old.pending ≡ pending.Comment → class ≡ LineFeed
     → new.builder ≡ old.builder → new.pending ≡ pending.Nothing → ReadsOn old class place new
 reads-line-feed old new class place was feed same is bytes read here =
     read-same bytes place old new pending.Comment LineFeed read
-        (subst (HasClass bytes place) feed here) was refl same pending.Nothing is refl tt
+    (subst (HasClass bytes place) feed here) was refl same pending.Nothing is refl tt
 
 -- a byte of a text has its class
 pub class-at : (bytes : List ℕ) (place : ℕ) (class : Class) → place < length bytes
     → class ≡ class_of (get_or bytes place 0) →
     is_text_byte (get_or bytes place 0) ≡ true → HasClass bytes place class
 class-at bytes place class within of-class text =
-    record { byte = get_or bytes place 0; here = slice_get-get_or bytes place 0 within; of_class = sym of-class; text =
-        text }
+    record {
+      byte = get_or bytes place 0;
+      here = slice_get-get_or bytes place 0 within;
+      of_class = sym of-class;
+      text =
+          text;
+    }
 
 all-text : (bytes : List ℕ) → ((k b : ℕ) → k < length bytes → slice_get bytes k ≡ Some b → is_text_byte b ≡ true)
     → IsTrue (list_all is_text_byte bytes)
@@ -317,7 +324,7 @@ pub reading-at-end : (bytes : List ℕ) (place : ℕ) (reader : Reader) (builder
     HasBuilt (tokens bytes) builder → Holds (tokens bytes) forest → IsReading bytes forest
 reading-at-end bytes place reader builder forest e read built holds =
     let faultless : IsFaultless [] (flatten holds.trees ++ []) =
-        subst (IsFaultless []) (sym holds.spelling ∙ sym (append-nil (flatten holds.trees))) built.faultless in
+    subst (IsFaultless []) (sym holds.spelling ∙ sym (append-nil (flatten holds.trees))) built.faultless in
     let shallow = trees-shallow holds.trees [] [] (omega arith) faultless in (
       holds.trees,
       record {

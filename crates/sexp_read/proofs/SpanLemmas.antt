@@ -44,7 +44,7 @@ tokens_from-from mode place [] = words-from mode place
 tokens_from-from mode place (b ∷ bytes) =
     all-append (IsFrom place) (tokens_at mode (class_of b) place) _ (tokens_at-from mode (class_of b) place)
     (all-weaker (IsFrom (place + 1)) (IsFrom place) (is-from-earlier place) _
-        (tokens_from-from (mode_after mode (class_of b) place b) (place + 1) bytes))
+    (tokens_from-from (mode_after mode (class_of b) place b) (place + 1) bytes))
 
 -- which bytes are parentheses
 chosen : {X : Type 0} (test : Bool) (x y z : X) → cond test x y ≡ z
@@ -65,7 +65,7 @@ Spans bytes place (Open at ∷ ts) = (place ≤ at) × (slice_get bytes at ≡ S
 Spans bytes place (Close to ∷ ts) = (place < to) × (slice_get bytes (to - 1) ≡ Some 41) × Spans bytes to ts
 Spans bytes place (Atom first word ∷ ts) =
     (place ≤ first) × (first + length word ≤ length bytes) × (slice_range bytes first (first + length word) ≡ word)
-        × Spans bytes (first + length word) ts
+    × Spans bytes (first + length word) ts
 
 spans-earlier : (bytes : List ℕ) (place : ℕ) (ts : List Token) → Spans bytes (place + 1) ts → Spans bytes place ts
 spans-earlier bytes place [] h = tt
@@ -92,9 +92,11 @@ mode-in bytes place b Between Letter here h =
     (refl, slice_range-more bytes place place b (omega arith) here ∙ ap (λ n. take n (drop place bytes) ++ b ∷ []) none)
 mode-in bytes place b Between Semicolon here h = tt
 mode-in bytes place b Between _ here h = tt
-mode-in bytes place b (Within first word) Letter here h =
-    (omega (arith, length_push word b), slice_range-more bytes first place b (omega arith) here
-        ∙ ap (λ ws. ws ++ b ∷ []) h.1)
+mode-in bytes place b (Within first word) Letter here h = (
+  omega (arith, length_push word b),
+  slice_range-more bytes first place b (omega arith) here
+      ∙ ap (λ ws. ws ++ b ∷ []) h.1,
+)
 mode-in bytes place b (Within first word) Semicolon here h = tt
 mode-in bytes place b (Within first word) _ here h = tt
 
@@ -113,7 +115,7 @@ word-spans bytes place (Within first word) le h = word-then bytes place first wo
 step-spans : (bytes : List ℕ) (place b : ℕ) (mode : Mode) (class : Class) → slice_get bytes place ≡ Some b →
     (class ≡ Left → b ≡ 40) → (class ≡ Right → b ≡ 41) → ModeIn bytes place mode →
     (ts : List Token) → Spans bytes (begin (place + 1) (mode_after mode class place b)) ts
-        → Spans bytes (begin place mode) (tokens_at mode class place ++ ts)
+    → Spans bytes (begin place mode) (tokens_at mode class place ++ ts)
 step-spans bytes place b Comment LineFeed here left right h ts later = spans-earlier bytes place ts later
 step-spans bytes place b Comment _ here left right h ts later = spans-earlier bytes place ts later
 step-spans bytes place b Between Letter here left right h ts later = later
@@ -125,16 +127,16 @@ step-spans bytes place b Between _ here left right h ts later = spans-earlier by
 step-spans bytes place b (Within first word) Letter here left right h ts later = later
 step-spans bytes place b (Within first word) Left here left right h ts later =
     word-then bytes place first word (omega (arith, slice_get_within bytes place b here)) h (Open place ∷ ts)
-        (omega arith, here ∙ ap Some (left refl), later)
+    (omega arith, here ∙ ap Some (left refl), later)
 step-spans bytes place b (Within first word) Right here left right h ts later =
     word-then bytes place first word (omega (arith, slice_get_within bytes place b here)) h (Close (place + 1) ∷ ts)
     (omega arith, ap (slice_get bytes) (omega arith) ∙ here ∙ ap Some (right refl), later)
 step-spans bytes place b (Within first word) Semicolon here left right h ts later =
     word-then bytes place first word (omega (arith, slice_get_within bytes place b here)) h ts
-        (spans-earlier bytes place ts later)
+    (spans-earlier bytes place ts later)
 step-spans bytes place b (Within first word) _ here left right h ts later =
     word-then bytes place first word (omega (arith, slice_get_within bytes place b here)) h ts
-        (spans-earlier bytes place ts later)
+    (spans-earlier bytes place ts later)
 
 pub tokens_from-spans : (bytes : List ℕ) (mode : Mode) (place : ℕ) (rest : List ℕ) → drop place bytes ≡ rest
     → place ≤ length bytes → ModeIn bytes place mode →
@@ -145,7 +147,7 @@ tokens_from-spans bytes mode place (b ∷ rest) e le h =
     let within : place < length bytes = slice_get_within bytes place b here.0 in
     step-spans bytes place b mode (class_of b) here.0 (left-byte b) (right-byte b) h _
     (tokens_from-spans bytes (mode_after mode (class_of b) place b) (place + 1) rest here.1 (omega arith)
-        (mode-in bytes place b mode (class_of b) here.0 h))
+    (mode-in bytes place b mode (class_of b) here.0 h))
 
 pub tokens-span : (bytes : List ℕ) → Spans bytes 0 (tokens bytes)
 tokens-span bytes = tokens_from-spans bytes Between 0 bytes refl (omega arith) tt

@@ -13,7 +13,7 @@ pub flatten-grown : (trees : Trees) (tree : Tree) → flatten (grown trees tree)
 flatten-grown End tree = append-nil (tree_tokens tree)
 flatten-grown (Then first trees) tree =
     ap (λ ts. tree_tokens first ++ ts) (flatten-grown trees tree)
-        ∙ sym (append_assoc (tree_tokens first) (flatten trees) (tree_tokens tree))
+    ∙ sym (append_assoc (tree_tokens first) (flatten trees) (tree_tokens tree))
 
 pub size-grown : (trees : Trees) (tree : Tree) → size (grown trees tree) ≡ size trees + tree_size tree
 size-grown End tree = omega arith
@@ -24,7 +24,7 @@ pub places-grown : (number : ℕ) (trees : Trees) (tree : Tree)
 places-grown number End tree = ap (λ n. n ∷ []) (omega arith)
 places-grown number (Then first trees) tree =
     ap (λ ns. number ∷ ns) (places-grown (number + tree_size first) trees tree
-        ∙ ap (λ n. places (number + tree_size first) trees ++ n ∷ []) (add_assoc number (tree_size first) (size trees)))
+    ∙ ap (λ n. places (number + tree_size first) trees ++ n ∷ []) (add_assoc number (tree_size first) (size trees)))
 
 pub items_of-grown : (number : ℕ) (trees : Trees) (tree : Tree) →
     items_of number (grown trees tree) ≡ items_of number trees ++ tree_items (number + size trees) tree
@@ -32,9 +32,9 @@ items_of-grown number End tree = append-nil (tree_items number tree) ∙ ap (λ 
 items_of-grown number (Then first trees) tree =
     ap (λ is. tree_items number first ++ is) (items_of-grown (number + tree_size first) trees tree)
     ∙ sym (append_assoc (tree_items number first) (items_of (number + tree_size first) trees)
-        (tree_items (number + tree_size first + size trees) tree))
+    (tree_items (number + tree_size first + size trees) tree))
     ∙ ap (λ n. (tree_items number first ++ items_of (number + tree_size first) trees) ++ tree_items n tree)
-        (add_assoc number (tree_size first) (size trees))
+    (add_assoc number (tree_size first) (size trees))
 
 mutual
   pub length-tree_items : (number : ℕ) (tree : Tree) → length (tree_items number tree) ≡ tree_size tree

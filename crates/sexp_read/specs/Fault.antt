@@ -44,7 +44,7 @@ abbrev pub IsFault : List ℕ → SexpFault → Type 0
 IsFault bytes NoMemory = ⊥
 IsFault bytes (Unclosed place) =
     ((fault : SexpFault) → StandsIn bytes fault → ⊥)
-        × ((inner : List ℕ) × (open_lists (tokens bytes) ≡ inner ++ place ∷ []))
+    × ((inner : List ℕ) × (open_lists (tokens bytes) ≡ inner ++ place ∷ []))
 IsFault bytes fault =
     StandsIn bytes fault × ((other : SexpFault) → StandsIn bytes other → place_of fault ≤ place_of other)
 

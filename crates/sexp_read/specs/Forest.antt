@@ -48,10 +48,10 @@ abbrev mutual
   pub Denotes : List ℕ → List Item → ℕ → Tree → Type 0
   Denotes bytes items number (Word first word) =
       (slice_get items number ≡ Some (atom first (first + length word)))
-          × (slice_range bytes first (first + length word) ≡ word)
+      × (slice_range bytes first (first + length word) ≡ word)
   Denotes bytes items number (Branch from to members) =
       (children : List ℕ) × (slice_get items number ≡ Some (list from to children))
-          × DenoteAll bytes items children members
+      × DenoteAll bytes items children members
 
   pub DenoteAll : List ℕ → List Item → List ℕ → Trees → Type 0
   DenoteAll bytes items [] End = Unit {0}
@@ -85,4 +85,4 @@ children_at items number = option_and_then (λ (item : Item). children_in item.b
 abbrev pub head_at : List ℕ → List Item → ℕ → Option (List ℕ)
 head_at bytes items number =
     option_and_then (λ (children : List ℕ). option_and_then (atom_at bytes items) (slice_get children 0))
-        (children_at items number)
+    (children_at items number)

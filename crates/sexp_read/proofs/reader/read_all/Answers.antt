@@ -13,8 +13,8 @@ returns-clause-ok c =
     let read = subst (λ n. HasRead bytes n reader) end c.loop-place.invariant in
     let built = c.in_ok-into_builder.ensures.ok bytes refl read in
     IfOk-weaker c.finish.result _ _
-        (λ forest holds. reading-at-end bytes (length bytes) reader c.in_ok-into_builder.field-0 forest refl read built
-        (holds (tokens bytes) built)) c.finish.ensures.ok
+    (λ forest holds. reading-at-end bytes (length bytes) reader c.in_ok-into_builder.field-0 forest refl read built
+    (holds (tokens bytes) built)) c.finish.ensures.ok
 
 pub returns-clause-err : goal.returns-clause-err
 returns-clause-err c =
@@ -24,6 +24,6 @@ returns-clause-err c =
     let read = subst (λ n. HasRead bytes n reader) end c.loop-place.invariant in
     let built = c.in_ok-into_builder.ensures.ok bytes refl read in
     IfErr-weaker c.finish.result _ _
-        (λ fault leaves. inr (fault-at-end bytes
-        (length bytes) reader c.in_ok-into_builder.field-0 fault refl read built (leaves (tokens bytes) built)))
-        c.finish.ensures.err
+    (λ fault leaves. inr (fault-at-end bytes
+    (length bytes) reader c.in_ok-into_builder.field-0 fault refl read built (leaves (tokens bytes) built)))
+    c.finish.ensures.err

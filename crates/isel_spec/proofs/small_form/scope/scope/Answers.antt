@@ -1,4 +1,4 @@
-use Rattle.std.proofs.Common.{◌≡◌, ◌+◌, sym, ap, ◌∙◌, arith, subst, option_and_then, option_map, drop, length, map}
+use Rattle.std.proofs.Common.{◌≡◌, ◌+◌, sym, ap, ◌∙◌, arith, option_and_then, option_map, drop, map}
 use Rattle.std.proofs.Common.{List, [], ◌∷◌, ◌++◌, length-append}
 use Rattle.std.proofs.lemmas.Bool.{false≢true}
 use Rattle.isel_spec.specs.Text.{each}

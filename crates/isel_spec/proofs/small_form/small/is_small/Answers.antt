@@ -1,4 +1,4 @@
-use Rattle.std.proofs.Common.{◌≡◌, ◌∷◌, [], List, ℕ, length, sym, ap, ◌∙◌, refl, arith, Some}
+use Rattle.std.proofs.Common.{◌≡◌, List, ℕ, sym, ◌∙◌, refl, arith, Some}
 use Rattle.std.specs.List.{slice_get}
 use Rattle.isel_spec.specs.declared.definitions.GoalDef.{GoalDef}
 use Rattle.isel_spec.proofs.FileLemmas.{one-there, small-one}

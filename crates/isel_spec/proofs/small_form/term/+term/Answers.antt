@@ -1,4 +1,4 @@
-use Rattle.std.proofs.Common.{◌≡◌, ◌<◌, sym, ap, ◌∙◌, arith, subst, length, Err}
+use Rattle.std.proofs.Common.{sym, ap, ◌∙◌, arith, subst, Err}
 use Rattle.std.proofs.lemmas.Result.{err_from_is_err_and}
 use Rattle.isel_spec.proofs.TermReading.{keeps-same, keeps-trans}
 use Rattle.isel_spec.proofs.OperandReading.{HasOperands, operands_none, operands_more}

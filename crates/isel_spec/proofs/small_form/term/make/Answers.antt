@@ -1,5 +1,4 @@
-use Rattle.std.proofs.Common.{sym, ◌∙◌, ap, subst, IsSome}
-use Rattle.bv_terms.specs.Sorts.{sort_of}
+use Rattle.std.proofs.Common.{sym, subst}
 use Rattle.isel_spec.specs.Reading.{KeepsTerms}
 use Rattle.isel_spec.proofs.TermReading.{well_sorted-some, term_at-sorted, refused-none, refused-tells, refused-other}
 use Rattle.isel_spec.proofs.TermReading.{keeps-same}

@@ -1,4 +1,4 @@
-use Rattle.std.proofs.Common.{◌^◌, ◌*◌, ◌+◌, ◌<◌, length, sym, arith}
+use Rattle.std.proofs.Common.{◌^◌, length, sym, arith}
 use Rattle.isel_spec.specs.Text.{digit_in, digit_bits}
 use Rattle.isel_spec.proofs.Digits.{each_more, digit_fits, digit_fits_word}
 use Rattle.isel_spec.proofs.small_form.words.number.Goals as goal

@@ -8,7 +8,7 @@ found : (c : goal.After-index-as_slice-item)
     → slice_get c.args.self.now.items c.args.item ≡ Some c.index-as_slice-item.result
 found c = item-at _ c.args.item c.index-as_slice-item.result
     (c.index-as_slice-item.is
-        ∙ ap (λ is. slice_index_or is c.args.item c.index-as_slice-item.result) c.as_slice.ensures) c.requires.item_in
+    ∙ ap (λ is. slice_index_or is c.args.item c.index-as_slice-item.result) c.as_slice.ensures) c.requires.item_in
 
 within : (c : goal.After-index-as_slice-item) → HasSpanWithin c.args.bytes.now c.index-as_slice-item.result
 within c = item-within c.args.bytes.now c.args.self.now c.requires.reading c.args.item c.index-as_slice-item.result
@@ -28,4 +28,4 @@ returns c =
     let read = c.index-as_slice-item in
     let same = ap (λ is. slice_index_or is c.args.item read.result) c.as_slice.ensures in
     ap (option_map (text_of c.args.bytes.now))
-        (item-at c.args.self.now.items c.args.item read.result (read.is ∙ same) c.requires.item_in)
+    (item-at c.args.self.now.items c.args.item read.result (read.is ∙ same) c.requires.item_in)

@@ -22,7 +22,10 @@ returns c =
           (λ reads bytes read here. reads bytes (word bytes c.args.class read here apart) here)
           c.step_between.ensures.ok;
       err = IfErr-weaker c.step_between.result _ _
-          (λ fault why. elim why [ inl memory ↦ inl memory | inr is ↦ inr
-              (λ bytes read here. is bytes (word bytes c.args.class read here apart) here) ])
+          (λ fault why. elim why [
+            | inl memory ↦ inl memory
+            | inr is ↦ inr
+                (λ bytes read here. is bytes (word bytes c.args.class read here apart) here)
+          ])
           c.step_between.ensures.err;
     }
