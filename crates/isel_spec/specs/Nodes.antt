@@ -1,5 +1,5 @@
 -- Numbers of nodes, each once.
-use Rattle.std.specs.Prelude.{◌≡◌, ℕ, List, ◌++◌, ◌==◌, map, Contains, All, ◌⊎◌, nat_eq}
+use Rattle.std.specs.Prelude.{◌≡◌, ℕ, List, ◌++◌, map, Contains, All, nat_eq}
 use Rattle.std.specs.List.{IsDistinct}
 use Rattle.bv_terms.specs.declared.op.TermId.{TermId}
 
