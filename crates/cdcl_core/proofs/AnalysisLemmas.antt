@@ -31,10 +31,10 @@ leads-level_start cs lits c marks consistent h m = record {
   derived = refl;
   same = λ l. same_test (contains c l) (contains lits (opposite l) && assigned marks l.variable)
       (λ k. and-both (contains lits (opposite l)) (assigned marks l.variable) (h l k)
-          (m l.variable ∙ contains_variable-from c l k))
+      (m l.variable ∙ contains_variable-from c l k))
       (λ k. back l (and-left (contains lits (opposite l)) (assigned marks l.variable) k)
-          (contains_variable-at c l.variable
-          (sym (m l.variable) ∙ and-right (contains lits (opposite l)) (assigned marks l.variable) k)));
+      (contains_variable-at c l.variable
+      (sym (m l.variable) ∙ and-right (contains lits (opposite l)) (assigned marks l.variable) k)));
 }
   where
     back : (l : Lit) → contains lits (opposite l) ≡ true →
@@ -53,7 +53,7 @@ leads-level_start cs lits c marks consistent h m = record {
 pub conflict-marked : (cs : List Clause) (lits : List Lit) (level_start number : ℕ) (c : Clause) (marks : List Bool) →
     HasDistinctVariables lits →
     slice_get cs number ≡ Some c → IsFalsified lits c.lits → ArePropagated (take level_start lits) cs →
-        ((x : ℕ) → assigned marks x ≡ contains_variable c.lits x) →
+    ((x : ℕ) → assigned marks x ≡ contains_variable c.lits x) →
     (k : ℕ) × (l : Lit) × (level_start ≤ k) × (slice_get lits k ≡ Some l) × (assigned marks l.variable ≡ true)
 conflict-marked cs lits level_start number c marks consistent at h propagated m = by was
   where
@@ -75,9 +75,14 @@ conflict-marked cs lits level_start number c marks consistent at h propagated m 
             absurd
             (false≢true
             (sym t.first_not_false ∙ contains-from lits level_start (opposite t.first) found.place b found.at))
-        place (inr b) =
-            (found.place, opposite t.first, b, found.at, m t.first.variable
-            ∙ contains_variable-from c.lits t.first t.first_stands)
+        place (inr b) = (
+          found.place,
+          opposite t.first,
+          b,
+          found.at,
+          m t.first.variable
+              ∙ contains_variable-from c.lits t.first t.first_stands,
+        )
 
 -- ---- the end at decision level 0
 
@@ -94,11 +99,11 @@ leads-empty cs first steps marks lits n u x = x.derived ∙ ap (λ c. Some c) (n
         by (inl t) =
             let both = sym (x.same l) ∙ t in
             let found =
-                place_of lits n (opposite l)
-                (and-left (contains (take n lits) (opposite l)) (assigned marks l.variable) both) in
+            place_of lits n (opposite l)
+            (and-left (contains (take n lits) (opposite l)) (assigned marks l.variable) both) in
             absurd
-                (false≢true (sym (u found.place (opposite l) (omega arith) found.before found.at)
-                ∙ and-right (contains (take n lits) (opposite l)) (assigned marks l.variable) both))
+            (false≢true (sym (u found.place (opposite l) (omega arith) found.before found.at)
+            ∙ and-right (contains (take n lits) (opposite l)) (assigned marks l.variable) both))
 
 -- ---- the literals of the learnt clause
 
@@ -135,9 +140,9 @@ collected-skip marks lits l i d c h u k m =
     k m ∙ ap (λ b. same_lit m l || b) (sym (
     ap (λ b. b && assigned marks m.variable) (contains-take_more lits i d m h)
     ∙ and-or_distrib_right (contains (take i lits) (opposite m)) (same_lit m (opposite (get_or lits i d)))
-        (assigned marks m.variable)
+    (assigned marks m.variable)
     ∙ ap (λ b. (contains (take i lits) (opposite m) && assigned marks m.variable) || b)
-        (same-and m (get_or lits i d) marks false u ∙ and-false (same_lit m (opposite (get_or lits i d))))
+    (same-and m (get_or lits i d) marks false u ∙ and-false (same_lit m (opposite (get_or lits i d))))
     ∙ or-false (contains (take i lits) (opposite m) && assigned marks m.variable)))
 
 pub collected-more : (marks : List Bool) (lits : List Lit) (l : Lit) (i : ℕ) (d : Lit) (c : List Lit) →
@@ -148,21 +153,21 @@ collected-more marks lits l i d c h u k m =
     ∙ ap (λ b. contains c m || b) (or-false (same_lit m (opposite (get_or lits i d))))
     ∙ ap (λ b. b || same_lit m (opposite (get_or lits i d))) (k m)
     ∙ or_assoc (same_lit m l) (contains (take i lits) (opposite m) && assigned marks m.variable)
-        (same_lit m (opposite (get_or lits i d)))
+    (same_lit m (opposite (get_or lits i d)))
     ∙ ap (λ b. same_lit m l || b) (sym (
     ap (λ b. b && assigned marks m.variable) (contains-take_more lits i d m h)
     ∙ and-or_distrib_right (contains (take i lits) (opposite m)) (same_lit m (opposite (get_or lits i d)))
-        (assigned marks m.variable)
+    (assigned marks m.variable)
     ∙ ap (λ b. (contains (take i lits) (opposite m) && assigned marks m.variable) || b)
-        (same-and m (get_or lits i d) marks true u ∙ and-true (same_lit m (opposite (get_or lits i d))))))
+    (same-and m (get_or lits i d) marks true u ∙ and-true (same_lit m (opposite (get_or lits i d))))))
 
 -- it is what the steps led to
 pub collected-same : (cs : List Clause) (first : List Lit) (steps : List (Lit × ℕ)) (marks : List Bool)
     (lits : List Lit) (level_start place : ℕ) (x : Lit) (c : List Lit) →
     level_start ≤ place → slice_get lits place ≡ Some x → assigned marks x.variable ≡ true →
-        AreUnmarked marks lits level_start place →
+    AreUnmarked marks lits level_start place →
     (led : Leads cs first steps marks (take (place + 1) lits)) → IsCollected marks lits (opposite x) level_start c →
-        AreSame led.clause c
+    AreSame led.clause c
 collected-same cs first steps marks lits level_start place x c h at marked u led k l =
     same_test (contains led.clause l) (contains c l) forth back
   where
@@ -189,8 +194,8 @@ collected-same cs first steps marks lits level_start place x c h at marked u led
             let here : found.place ≡ place = omega (arith, b, f) in
             let same : opposite l ≡ x = same_Some (opposite l) x (sym found.at ∙ ap (slice_get lits) here ∙ at) in
             or-left (same_lit l (opposite x))
-                (contains (take level_start lits) (opposite l) && assigned marks l.variable)
-                (same_lit-from l (opposite x) (sym (opposite-opposite l) ∙ ap opposite same))
+            (contains (take level_start lits) (opposite l) && assigned marks l.variable)
+            (same_lit-from l (opposite x) (sym (opposite-opposite l) ∙ ap opposite same))
 
         by : (found.place < level_start) ⊎ (level_start ≤ found.place) →
             (same_lit l (opposite x) || (contains (take level_start lits) (opposite l) && assigned marks l.variable)) ≡
@@ -199,7 +204,7 @@ collected-same cs first steps marks lits level_start place x c h at marked u led
             or-right (same_lit l (opposite x))
             (contains (take level_start lits) (opposite l) && assigned marks l.variable)
             (and-both (contains (take level_start lits) (opposite l)) (assigned marks l.variable)
-                (contains-from lits level_start (opposite l) found.place b found.at) mark)
+            (contains-from lits level_start (opposite l) found.place b found.at) mark)
         by (inr b) = later (cases_lt found.place place) b
 
     back : contains c l ≡ true → contains led.clause l ≡ true
@@ -219,7 +224,7 @@ collected-same cs first steps marks lits level_start place x c h at marked u led
             (ap (λ (y : Lit). assigned marks y.variable) same ∙ marked)
         by (inr e) = and-both (contains (take (place + 1) lits) (opposite l)) (assigned marks l.variable)
             (contains-more lits level_start (place + 1) (opposite l) (omega (arith, h))
-                (and-left (contains (take level_start lits) (opposite l)) (assigned marks l.variable) e))
+            (and-left (contains (take level_start lits) (opposite l)) (assigned marks l.variable) e))
             (and-right (contains (take level_start lits) (opposite l)) (assigned marks l.variable) e)
 
 -- ---- what the learnt clause says
@@ -237,7 +242,7 @@ collected-false marks lits level_start place x c at k l t =
     by (inl e) =
         let same : opposite l ≡ x = ap opposite (same_lit-true l (opposite x) e) ∙ opposite-opposite x in
         contains-part lits (place + 1) (opposite l)
-            (contains-from lits (place + 1) (opposite l) place (omega arith) (at ∙ ap (λ y. Some y) (sym same)))
+        (contains-from lits (place + 1) (opposite l) place (omega arith) (at ∙ ap (λ y. Some y) (sym same)))
     by (inr e) =
         contains-part lits level_start (opposite l)
         (and-left (contains (take level_start lits) (opposite l)) (assigned marks l.variable) e)
@@ -285,19 +290,22 @@ collected-new_clause cs marks lits level_start place x c consistent propagated a
 pub collected-asserting : (marks : List Bool) (lits : List Lit) (level_start place keep : ℕ) (x : Lit) (c : List Lit) →
     HasDistinctVariables lits → level_start ≤ place →
     slice_get lits place ≡ Some x → IsCollected marks lits (opposite x) level_start c →
-        IsKeptLength marks lits level_start keep → IsAsserting lits c (opposite x) level_start keep
+    IsKeptLength marks lits level_start keep → IsAsserting lits c (opposite x) level_start keep
 collected-asserting marks lits level_start place keep x c consistent h at k kept = record {
   kept = within keep kept;
   unassigned =
       λ n b. ((unassigned_at n b).1, ap (contains (take n lits)) (opposite-opposite x) ∙ (unassigned_at n b).0);
   forces =
       λ n b.
-      record { stands = stands;
-      others =
-      λ l t.
-      others keep kept n b l
-      (or-cases (same_lit l (opposite x)) (contains (take level_start lits) (opposite l) && assigned marks l.variable)
-      (sym (k l) ∙ t)) };
+      record {
+        stands = stands;
+        others =
+            λ l t.
+            others keep kept n b l
+            (or-cases (same_lit l (opposite x))
+                (contains (take level_start lits) (opposite l) && assigned marks l.variable)
+            (sym (k l) ∙ t));
+      };
   propagated = λ n b. inr (two keep kept n b);
 }
   where
@@ -353,8 +361,8 @@ collected-asserting marks lits level_start place keep x c consistent h at k kept
           ∙ or-right (same_lit (opposite u.lit) (opposite x))
           (contains (take level_start lits) (opposite (opposite u.lit)) && assigned marks u.lit.variable)
           (and-both (contains (take level_start lits) (opposite (opposite u.lit))) (assigned marks u.lit.variable)
-              (ap (contains (take level_start lits)) (opposite-opposite u.lit)
-              ∙ contains-from lits level_start u.lit m u.before u.stands) u.marked);
+          (ap (contains (take level_start lits)) (opposite-opposite u.lit)
+          ∙ contains-from lits level_start u.lit m u.before u.stands) u.marked);
       first_not_false = ap (contains (take n lits)) (opposite-opposite x)
           ∙ (let s = u.before in not_yet lits n place x (omega (arith, b, s, h)) (consistent place x at).0);
       second_not_false = ap (contains (take n lits)) (opposite-opposite u.lit)
@@ -364,7 +372,7 @@ collected-asserting marks lits level_start place keep x c consistent h at k kept
         distinct : x ≡ u.lit → ⊥
         distinct e = let s = u.before in
             false≢true (sym (consistent place x at).0 ∙ ap (contains (take place lits)) e
-                ∙ contains-from lits place u.lit m (omega (arith, s, h)) u.stands)
+            ∙ contains-from lits place u.lit m (omega (arith, s, h)) u.stands)
 
 -- ---- over the same variables
 
@@ -377,7 +385,7 @@ pub collected-over : (variables : ℕ) (marks : List Bool) (lits : List Lit) (le
     slice_get lits place ≡ Some x → IsCollected marks lits (opposite x) level_start c → IsOver variables c
 collected-over variables marks lits level_start place x c over at k =
     over-from variables c
-        (λ l t. over-at variables lits (opposite l) over (collected-false marks lits level_start place x c at k l t))
+    (λ l t. over-at variables lits (opposite l) over (collected-false marks lits level_start place x c at k l t))
 
 -- what is said of no place, where there is none
 pub where_none : (o : Option ℕ) (P : Type 0) → IfNone o P → is_some o ≡ false → P

@@ -61,7 +61,7 @@ unvalued lits variable (Some value) h none sign = absurd (false≢true (sym none
 -- a variable with a value
 pub pick-skip : (t : Trail) (scores : List ℕ) (best : Option Lit) (variable : ℕ) → IsBest t scores best variable →
     ((l : Lit) → l.variable ≡ variable → (contains t.lits l ≡ true) ⊎ (contains t.lits (opposite l) ≡ true)) →
-        IsBest t scores best (variable + 1)
+    IsBest t scores best (variable + 1)
 pick-skip t scores None variable h valued =
     record { there = tt; free = tt; none = λ l lt f. by l f (below l.variable variable lt); highest = tt }
   where
@@ -75,8 +75,12 @@ pick-skip t scores None variable h valued =
     by l f (inl lt) = h.none l lt f
     by l f (inr e) = other l f (valued l e)
 pick-skip t scores (Some best) variable h valued =
-    record { there = h.there; free = h.free; none = tt;
-    highest = λ m lt free. by m free (below m.variable variable lt) }
+    record {
+      there = h.there;
+      free = h.free;
+      none = tt;
+      highest = λ m lt free. by m free (below m.variable variable lt);
+    }
   where
     never : (m : Lit) → IsUnassigned t.lits m → (contains t.lits m ≡ true) ⊎ (contains t.lits (opposite m) ≡ true) → ⊥
     never m free (inl e) = false≢true (sym free.0 ∙ e)
@@ -91,7 +95,7 @@ pick-skip t scores (Some best) variable h valued =
 pub pick-more : (t : Trail) (scores : List ℕ) (best : Option Lit) (variable : ℕ) (l r : Lit) →
     IsBest t scores best variable → variable < t.variables → l.variable ≡ variable → IsUnassigned t.lits l →
     (r ≡ l) ⊎ (best ≡ Some r) → score scores l.variable ≤ score scores r.variable →
-        IfSome best (λ b. score scores b.variable ≤ score scores r.variable) → IsBest t scores (Some r) (variable + 1)
+    IfSome best (λ b. score scores b.variable ≤ score scores r.variable) → IsBest t scores (Some r) (variable + 1)
 pick-more t scores best variable l r h within here free one high higher = record {
   there = there one;
   free = unassigned one;

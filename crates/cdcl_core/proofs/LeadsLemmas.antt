@@ -25,7 +25,7 @@ pub step-from : (cs : List Clause) (c : List Lit) (m : Lit) (r : ℕ) (d : Claus
 step-from cs c m r d at h k =
     ap (option_and_then (λ (x : Clause). resolvent c m x.lits)) at
     ∙ ap (λ b. cond b (Some (without m c ++ without (opposite m) d.lits)) None)
-        (and-both (contains c m) (contains d.lits (opposite m)) h k)
+    (and-both (contains c m) (contains d.lits (opposite m)) h k)
 
 -- what is left of a clause has another literal of it
 without-contains : (m : Lit) (c : List Lit) (l : Lit) → (m ≡ l → ⊥) → contains c l ≡ true →
@@ -48,7 +48,7 @@ without-had m c l h = (
 pub leads-skip : (cs : List Clause) (first : List Lit) (steps : List (Lit × ℕ)) (marks : List Bool) (lits : List Lit)
     (m n : ℕ) →
     m ≤ n → AreUnmarked marks lits m n → Leads cs first steps marks (take n lits) →
-        Leads cs first steps marks (take m lits)
+    Leads cs first steps marks (take m lits)
 leads-skip cs first steps marks lits m n h u x = record {
   clause = x.clause;
   derived = x.derived;
@@ -79,7 +79,7 @@ leads-skip cs first steps marks lits m n h u x = record {
         (contains (take n lits) (opposite l) && assigned marks l.variable) ≡ true
     more l e = and-both (contains (take n lits) (opposite l)) (assigned marks l.variable)
         (contains-more lits m n (opposite l) h
-            (and-left (contains (take m lits) (opposite l)) (assigned marks l.variable) e))
+        (and-left (contains (take m lits) (opposite l)) (assigned marks l.variable) e))
         (and-right (contains (take m lits) (opposite l)) (assigned marks l.variable) e)
 
 -- ---- one step back
@@ -87,13 +87,13 @@ leads-skip cs first steps marks lits m n h u x = record {
 pub leads-step : (cs : List Clause) (first : List Lit) (steps : List (Lit × ℕ)) (old new : List Bool) (lits : List Lit)
     (p r : ℕ) (x : Lit) (d : Clause) →
     HasDistinctVariables lits → slice_get lits p ≡ Some x → slice_get cs r ≡ Some d → Forces (take p lits) d.lits x →
-        assigned old x.variable ≡ true → IsMarked old d.lits new →
+    assigned old x.variable ≡ true → IsMarked old d.lits new →
     Leads cs first steps old (take (p + 1) lits) → Leads cs first (steps ++ (opposite x, r) ∷ []) new (take p lits)
 leads-step cs first steps old new lits p r x d consistent at there forces marked m before = record {
   clause = rest;
   derived = after_steps-more cs steps (opposite x, r) first c rest before.derived
       (step-from cs c (opposite x) r d there pivot
-          (subst (λ y. contains d.lits y ≡ true) (sym (opposite-opposite x)) forces.stands));
+      (subst (λ y. contains d.lits y ≡ true) (sym (opposite-opposite x)) forces.stands));
   same = λ l. same_test (contains rest l) (contains (take p lits) (opposite l) && assigned new l.variable) (forth l)
       (back l);
 }
@@ -112,7 +112,7 @@ leads-step cs first steps old new lits p r x d consistent at there forces marked
         before.same (opposite x)
         ∙ and-both (contains (take (p + 1) lits) (opposite (opposite x))) (assigned old x.variable)
         (ap (contains (take (p + 1) lits)) (opposite-opposite x) ∙ contains-from lits (p + 1) x p (omega arith) at)
-            marked
+        marked
 
     not_this : (l : Lit) → contains (take p lits) (opposite l) ≡ true → opposite l ≡ x → ⊥
     not_this l h e = false≢true (sym unassigned_before.0 ∙ ap (contains (take p lits)) (sym e) ∙ h)
@@ -147,7 +147,7 @@ leads-step cs first steps old new lits p r x d consistent at there forces marked
                 let f = found.before in
                 let here : found.place ≡ p = omega (arith, b, f) in
                 let same : x ≡ opposite l =
-                    same_Some x (opposite l) (sym at ∙ ap (slice_get lits) (sym here) ∙ found.at) in
+                same_Some x (opposite l) (sym at ∙ ap (slice_get lits) (sym here) ∙ found.at) in
                 absurd (k.0 (ap opposite same ∙ opposite-opposite l))
 
         new_one : (opposite (opposite x) ≡ l → ⊥) × (contains d.lits l ≡ true) →
@@ -180,9 +180,9 @@ leads-step cs first steps old new lits p r x d consistent at there forces marked
             contains-right (without (opposite x) c) (without (opposite (opposite x)) d.lits) l
             (without-contains (opposite (opposite x)) d.lits l
             (λ s.
-                false≢true
-                (sym unassigned_before.1 ∙ ap (λ z. contains (take p lits) (opposite z)) (sym (opposite-opposite x) ∙ s)
-                ∙ false_now))
+            false≢true
+            (sym unassigned_before.1 ∙ ap (λ z. contains (take p lits) (opposite z)) (sym (opposite-opposite x) ∙ s)
+            ∙ false_now))
             (subst (λ z. contains d.lits z ≡ true) e k))
         from_clause y k (inr e) = absurd (clash (forces.others y k))
           where
@@ -198,7 +198,7 @@ leads-step cs first steps old new lits p r x d consistent at there forces marked
             contains-left (without (opposite x) c) (without (opposite (opposite x)) d.lits) l
             (without-contains (opposite x) c l (λ s. not_this l false_now (ap opposite (sym s) ∙ opposite-opposite x))
             (before.same l ∙ and-both (contains (take (p + 1) lits) (opposite l)) (assigned old l.variable)
-                (contains-more lits p (p + 1) (opposite l) (omega arith) false_now) k))
+            (contains-more lits p (p + 1) (opposite l) (omega arith) false_now) k))
         by (inr k) =
             let found = contains_variable-at d.lits l.variable k in
             from_clause found.0 found.1 (same_variable found.0 l found.2)
@@ -212,7 +212,7 @@ pub reason_clause : (cs : List Clause) (lits : List Lit) (reasons : List (Option
     (h : HasReason cs lits reasons p) → get_or reasons p None ≡ Some r → h.clause ≡ get_or cs r d
 reason_clause cs lits reasons p r d h e =
     sym (get_or_from_slice_get cs r h.clause d (ap (slice_get cs) (sym (reason_number cs lits reasons p r h e))
-        ∙ h.there))
+    ∙ h.there))
 
 pub leads-resolve : (cs : List Clause) (lits : List Lit) (reasons : List (Option ℕ)) (p r : ℕ) (y : Lit) (d : Clause)
     (old new : List Bool) →
@@ -222,7 +222,7 @@ pub leads-resolve : (cs : List Clause) (lits : List Lit) (reasons : List (Option
     Leads cs first (steps ++ (opposite (get_or lits p y), r) ∷ []) new (take p lits)
 leads-resolve cs lits reasons p r y d old new h e consistent marked m first steps before =
     subst (λ x. Leads cs first (steps ++ (opposite x, r) ∷ []) new (take p lits))
-        (sym (get_or_from_slice_get lits p h.lit y h.stands))
+    (sym (get_or_from_slice_get lits p h.lit y h.stands))
     (leads-step cs first steps old new lits p r h.lit h.clause consistent h.stands
     (ap (slice_get cs) (sym (reason_number cs lits reasons p r h e)) ∙ h.there) h.forces (marked h.lit h.stands)
     (subst (λ (x : Clause). IsMarked old x.lits new) (sym (reason_clause cs lits reasons p r d h e)) m) before)
@@ -241,6 +241,6 @@ found-marked marks lits from to place h l e =
 pub leads-found : (cs : List Clause) (first : List Lit) (steps : List (Lit × ℕ)) (marks : List Bool) (lits : List Lit)
     (from to place : ℕ) →
     IsLastMarked marks lits from to place → Leads cs first steps marks (take to lits) →
-        Leads cs first steps marks (take (place + 1) lits)
+    Leads cs first steps marks (take (place + 1) lits)
 leads-found cs first steps marks lits from to place h x = let b =
     h.before in leads-skip cs first steps marks lits (place + 1) to (omega (arith, b)) h.last x

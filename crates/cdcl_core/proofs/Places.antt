@@ -122,7 +122,7 @@ place_in lits l h = place_of lits (length lits) l (contains-whole lits l h)
 pub contains-at : (lits : List Lit) (l : Lit) (k : ℕ) → slice_get lits k ≡ Some l → contains lits l ≡ true
 contains-at lits l k e =
     ap (λ xs. contains xs l) (sym (take_all (length lits) lits (le_refl (length lits))))
-        ∙ contains-from lits (length lits) l k (slice_get_within lits k l e) e
+    ∙ contains-from lits (length lits) l k (slice_get_within lits k l e) e
 
 pub contains-part : (lits : List Lit) (n : ℕ) (l : Lit) → contains (take n lits) l ≡ true → contains lits l ≡ true
 contains-part lits n l h = let found = place_of lits n l h in contains-at lits l found.place found.at

@@ -23,8 +23,12 @@ pub record IsPropagating (cs : List Clause) (old now : Trail) (number : ℕ) (ch
 
 pub propagate_once-begins : (cs : List Clause) (t : Trail) → AreReasons cs t → IsPropagating cs t t 0 false
 propagate_once-begins cs t h =
-    record { extends = ExtendsTrail-itself t; reasons = h; fixpoint = λ _ k d lt. absurd (omega arith);
-    progress = λ e. absurd (false≢true e) }
+    record {
+      extends = ExtendsTrail-itself t;
+      reasons = h;
+      fixpoint = λ _ k d lt. absurd (omega arith);
+      progress = λ e. absurd (false≢true e);
+    }
 
 pub propagate_once-propagated : (cs : List Clause) (old now : Trail) (number : ℕ) (changed : Bool) (c : Clause) →
     IsPropagating cs old now number changed → slice_get cs number ≡ Some c → IsPropagated now.lits c.lits →
@@ -32,9 +36,12 @@ pub propagate_once-propagated : (cs : List Clause) (old now : Trail) (number : �
 propagate_once-propagated cs old now number changed c s at h =
     let within = slice_get_within cs number c at in
     let here = subst (λ (x : Clause). IsPropagated now.lits x.lits) (sym (get_or_from_slice_get cs number c c at)) h in
-    record { extends = s.extends; reasons = s.reasons;
-        fixpoint = λ e. All-more (λ (x : Clause). IsPropagated now.lits x.lits) cs number c within (s.fixpoint e) here;
-        progress = s.progress }
+    record {
+      extends = s.extends;
+      reasons = s.reasons;
+      fixpoint = λ e. All-more (λ (x : Clause). IsPropagated now.lits x.lits) cs number c within (s.fixpoint e) here;
+      progress = s.progress;
+    }
 
 extends-forced : (now next : Trail) (l : Lit) (reason : ℕ) → next ≡ forced now l reason → ExtendsTrail now next
 extends-forced now next l reason e = record {
@@ -49,7 +56,7 @@ extends-forced now next l reason e = record {
 pub propagate_once-forced : (cs : List Clause) (old now next : Trail) (number : ℕ) (changed : Bool) (c : Clause)
     (l : Lit) → IsPropagating cs old now number changed → slice_get cs number ≡ Some c →
     Forces now.lits c.lits l → IsTrail now → IsTrail next → next ≡ forced now l number →
-        IsPropagating cs old next (number + 1) true
+    IsPropagating cs old next (number + 1) true
 propagate_once-forced cs old now next number changed c l s at h it it' e =
     let before = ap length s.extends.lits in
     let after = ap (λ (t : Trail). length t.lits) e in
@@ -109,6 +116,6 @@ pub blockers-next : (cs : List Clause) (blockers : List Lit) (k : ℕ) (c : Clau
     AreBlockers (take (k + 1) cs) (blockers ++ get_or lits 0 d ∷ [])
 blockers-next cs blockers k c lits d h within at same filled =
     subst (λ xs. AreBlockers xs (blockers ++ get_or lits 0 d ∷ []))
-        (sym (take_more cs k c within ∙ ap (λ x. take k cs ++ x ∷ []) (sym at)))
+    (sym (take_more cs k c within ∙ ap (λ x. take k cs ++ x ∷ []) (sym at)))
     (blockers-push (take k cs) blockers c (get_or lits 0 d) h (ap (λ xs. contains c.lits (get_or xs 0 d)) same
-        ∙ head-stands c.lits d filled))
+    ∙ head-stands c.lits d filled))

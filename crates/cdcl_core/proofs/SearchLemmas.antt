@@ -61,8 +61,8 @@ have_reasons cs t from it reasons level_starts k later within = by (get_or t.rea
         absurd (omega (arith, early, later))
     by (Some number) e =
         let why =
-            reasons k number (get_or t.lits k (record { variable = 0; positive = false })) at
-            (there ∙ ap (λ x. Some x) e) in
+        reasons k number (get_or t.lits k (record { variable = 0; positive = false })) at
+        (there ∙ ap (λ x. Some x) e) in
         record {
           lit = get_or t.lits k (record { variable = 0; positive = false });
           stands = at;
@@ -95,32 +95,32 @@ pub no_level_start : (t : Trail) (s : ℕ) → slice_get t.level_starts (length 
 no_level_start t s none here =
     let w = here.1 in
     none-some (get_or t.level_starts (length t.level_starts - 1) 0)
-        (sym none ∙ slice_get-get_or t.level_starts (length t.level_starts - 1) 0 (omega (arith, w)))
+    (sym none ∙ slice_get-get_or t.level_starts (length t.level_starts - 1) 0 (omega (arith, w)))
 
 pub level_start_within : (t : Trail) (level_start : ℕ) → IsTrail t →
     slice_get t.level_starts (length t.level_starts - 1) ≡ Some level_start → level_start < length t.lits
 level_start_within t level_start it last =
     subst (λ s. s < length t.lits) (get_or_from_slice_get t.level_starts (length t.level_starts - 1) level_start 0 last)
     (it.within (length t.level_starts - 1) 0
-        (slice_get_within t.level_starts (length t.level_starts - 1) level_start last))
+    (slice_get_within t.level_starts (length t.level_starts - 1) level_start last))
 
 pub propagated_at_level_start : (cs : List Clause) (t : Trail) (level_start : ℕ) → ArePropagatedBefore cs t →
     slice_get t.level_starts (length t.level_starts - 1) ≡ Some level_start → ArePropagated (take level_start t.lits) cs
 propagated_at_level_start cs t level_start h last =
     subst (λ s. ArePropagated (take s t.lits) cs)
-        (get_or_from_slice_get t.level_starts (length t.level_starts - 1) level_start 0 last)
+    (get_or_from_slice_get t.level_starts (length t.level_starts - 1) level_start 0 last)
     (h (length t.level_starts - 1) 0 (slice_get_within t.level_starts (length t.level_starts - 1) level_start last))
 
 -- a search whose trail has propagated and decided
 pub ready-found : (old : Search) (trail : Trail) (blockers : Vec Lit Global) (cs : List Clause) → IsReady old →
     cs ≡ old.clauses.items → trail.variables ≡ old.trail.variables → AreBlockers cs blockers.items →
     AreReasons cs trail → ArePropagatedBefore cs trail →
-        IsReady
-        (record { clauses = old.clauses; blockers = blockers; trail = trail; scores = old.scores; log = old.log })
-ready-found old trail blockers cs ready same variables blockers reasons before = record {
+    IsReady
+    (record { clauses = old.clauses; blockers = blockers; trail = trail; scores = old.scores; log = old.log })
+ready-found old trail blockers cs ready same variables blocked reasons before = record {
   scored = ready.scored ∙ sym variables;
   over = subst (λ n. All (λ (x : Clause). IsOver n x.lits) old.clauses.items) (sym variables) ready.over;
-  blockers = subst (λ xs. AreBlockers xs blockers.items) same blockers;
+  blockers = subst (λ xs. AreBlockers xs blockers.items) same blocked;
   filled = ready.filled;
   reasons = subst (λ xs. AreReasons xs trail) same reasons;
   before = subst (λ xs. ArePropagatedBefore xs trail) same before;
@@ -146,7 +146,7 @@ learnt-before : (older : List Clause) (c : Clause) (old new : Trail) (l : Lit) (
     ArePropagatedBefore (older ++ c ∷ []) new
 learnt-before older c old new l level_start keep h cancelled asserting k d b =
     All-append (λ (x : Clause). IsPropagated (take (get_or new.level_starts k d) new.lits) x.lits) older (c ∷ [])
-        (ArePropagatedBefore-cancelled older old new keep h cancelled k d b)
+    (ArePropagatedBefore-cancelled older old new keep h cancelled k d b)
     (λ j e w. one j e w)
   where
     early : get_or new.level_starts k d < keep
@@ -166,24 +166,30 @@ learnt-before older c old new l level_start keep h cancelled asserting k d b =
 pub backjumped-reasons : (cs older : List Clause) (c : Clause) (old new : Trail) (l : Lit) (level_start keep : ℕ) →
     cs ≡ older ++ c ∷ [] → IsTrail old → IsTrail new →
     AreReasons older old → IsCancelled old new keep → IsAsserting old.lits c.lits l level_start keep →
-        AreReasons cs (forced new l (length cs - 1))
+    AreReasons cs (forced new l (length cs - 1))
 backjumped-reasons cs older c old new l level_start keep e it it_new reasons cancelled asserting =
     AreReasons-forced cs new l (length cs - 1) c it_new
     (subst (λ xs. AreReasons xs new) (sym e)
-        (AreReasons-more older c new (AreReasons-cancelled older old new keep it reasons cancelled)))
+    (AreReasons-more older c new (AreReasons-cancelled older old new keep it reasons cancelled)))
     (last_clause cs older c e)
     (subst (λ lits. Forces lits c.lits l) (sym cancelled.lits) (asserting.forces cancelled.place cancelled.later))
 
 pub backjumped-before : (cs older : List Clause) (c : Clause) (old new : Trail) (l : Lit) (level_start keep : ℕ) →
     cs ≡ older ++ c ∷ [] → IsTrail new →
     ArePropagatedBefore older old → IsCancelled old new keep → IsAsserting old.lits c.lits l level_start keep →
-        ArePropagatedBefore cs (forced new l (length cs - 1))
+    ArePropagatedBefore cs (forced new l (length cs - 1))
 backjumped-before cs older c old new l level_start keep e it_new before cancelled asserting =
     ArePropagatedBefore-extends cs new (forced new l (length cs - 1)) it_new
     (subst (λ xs. ArePropagatedBefore xs new) (sym e)
-        (learnt-before older c old new l level_start keep before cancelled asserting))
-    (record { variables = refl; level_starts = refl; more_lits = l ∷ []; lits = refl;
-        more_reasons = Some (length cs - 1) ∷ []; reasons = refl })
+    (learnt-before older c old new l level_start keep before cancelled asserting))
+    (record {
+      variables = refl;
+      level_starts = refl;
+      more_lits = l ∷ [];
+      lits = refl;
+      more_reasons = Some (length cs - 1) ∷ [];
+      reasons = refl;
+    })
 
 -- ---- a longer log
 
@@ -193,7 +199,7 @@ log-begins cs = record { all = cs; resolve = refl; same = AllSame-itself cs; new
 pub log-more : (given : List Clause) (chains : List Chain) (clauses : List Clause) (chain : Chain) (lits : List Lit)
     (c : Clause) →
     IsLogOf given chains clauses → derived clauses chain ≡ Some lits → AreSame lits c.lits →
-        IsNewClause clauses c.lits → IsLogOf given (chains ++ chain ∷ []) (clauses ++ c ∷ [])
+    IsNewClause clauses c.lits → IsLogOf given (chains ++ chain ∷ []) (clauses ++ c ∷ [])
 log-more given chains clauses chain lits c log derives same new_clause = record {
   all = log.all ++ clause found.0 ∷ [];
   resolve = with_chains-more given chains chain log.all found.0 log.resolve found.1;
@@ -224,7 +230,7 @@ nothing_subset_of_empty cs h = record {
 pub log-closed : (given : List Clause) (chains : List Chain) (clauses : List Clause) (chain : Chain) →
     All (λ (c : Clause). c.lits ≢ []) clauses →
     IsLogOf given chains clauses → derived clauses chain ≡ Some [] →
-        IsAccepted given (chains ++ chain ∷ []) × AreNewClauses given (chains ++ chain ∷ [])
+    IsAccepted given (chains ++ chain ∷ []) × AreNewClauses given (chains ++ chain ∷ [])
 log-closed given chains clauses chain filled log derives = (
   (longer.all, longer.resolve, at_end longer.all (AllSame-empty longer.all clauses longer.same)),
   longer.new_clauses,
@@ -236,9 +242,11 @@ log-closed given chains clauses chain filled log derives = (
         (nothing_subset_of_empty clauses filled)
 
     at_end : (all : List Clause) → slice_get all (length clauses) ≡ Some (clause []) → Contains all (clause [])
-    at_end all e =
-        (length clauses, slice_get_within all (length clauses) (clause []) e,
-        get_or_from_slice_get all (length clauses) (clause []) (clause []) e)
+    at_end all e = (
+      length clauses,
+      slice_get_within all (length clauses) (clause []) e,
+      get_or_from_slice_get all (length clauses) (clause []) (clause []) e,
+    )
 
     AllSame-empty : (all cs : List Clause) → AllSame all (cs ++ clause [] ∷ []) →
         slice_get all (length cs) ≡ Some (clause [])
@@ -257,7 +265,7 @@ log-filled given chains clauses filled log = (log.all, log.resolve, λ here. emp
         filled here.0 (clause []) (subst (λ n. here.0 < n) (AllSame-length log.all clauses log.same) here.1)
         (no_literal (get_or clauses here.0 (clause [])).lits
         (λ l. AreSame-sym (get_or log.all here.0 (clause [])).lits (get_or clauses here.0 (clause [])).lits
-            (AllSame-get log.all clauses here.0 (clause []) log.same) l
+        (AllSame-get log.all clauses here.0 (clause []) log.same) l
         ∙ ap (λ (c : Clause). contains c.lits l) here.2))
 
 -- ---- a model
@@ -291,7 +299,7 @@ some-true v (x ∷ xs) l h t = by (true-or-false (same_lit l x)) (some-true v xs
 pub propagated-model : (cs : List Clause) (t : Trail) (values : List Bool) → IsTrail t →
     All (λ (c : Clause). IsOver t.variables c.lits) cs →
     ArePropagated t.lits cs → AreAllAssigned t →
-        ((x : ℕ) → x < t.variables → assigned values x ≡ contains t.lits (record { variable = x; positive = true })) →
+    ((x : ℕ) → x < t.variables → assigned values x ≡ contains t.lits (record { variable = x; positive = true })) →
     is_model (assigned values) cs ≡ true
 propagated-model cs t values it over propagated all gives =
     list_all-from_AllPass (λ (c : Clause). clause_true (assigned values) c.lits) cs
@@ -350,7 +358,7 @@ model-given v (chain ∷ chains) given all h m =
     option_and_then_some (λ lits. with_chains (given ++ clause lits ∷ []) chains) (derived given chain) all h
     (λ lits first rest. and-left (is_model v given) (is_model v (clause lits ∷ []))
     (sym (list_all-append (λ (x : Clause). clause_true v x.lits) given (clause lits ∷ []))
-        ∙ model-given v chains (given ++ clause lits ∷ []) all rest m))
+    ∙ model-given v chains (given ++ clause lits ∷ []) all rest m))
 
 pub log-model : (v : ℕ → Bool) (given : List Clause) (chains : List Chain) (clauses : List Clause) →
     IsLogOf given chains clauses → is_model v clauses ≡ true → is_model v given ≡ true

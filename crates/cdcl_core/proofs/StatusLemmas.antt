@@ -67,7 +67,7 @@ false-second : (lits : List Lit) (first l : Lit) (c : List Lit) (r : ClauseStatu
     IsStatus lits (first ∷ c) r → IsStatus lits (first ∷ l ∷ c) r
 false-second lits first l c r untrue x =
     status-more lits (first ∷ c) (first ∷ l ∷ c) r (λ m h. wider m (or-cases (same_lit m first) (contains c m) h))
-        (λ m h. by m (or-cases (same_lit m first) (contains (l ∷ c) m) h)) x
+    (λ m h. by m (or-cases (same_lit m first) (contains (l ∷ c) m) h)) x
   where
     wider : (m : Lit) → (same_lit m first ≡ true) ⊎ (contains c m ≡ true) → contains (first ∷ l ∷ c) m ≡ true
     wider m (inl e) =
@@ -125,7 +125,7 @@ status-after lits first (l ∷ c) free =
     third a b (inl e) next =
         subst (λ x. IsStatus lits (first ∷ l ∷ c) (if not x then Unresolved else clause_status lits c (Some l))) (sym e)
         (subst (λ x. IsStatus lits (x ∷ l ∷ c) (clause_status lits c (Some l))) (sym (same_lit-true first l e))
-            (twice lits l c (clause_status lits c (Some l)) (next (a, b))))
+        (twice lits l c (clause_status lits c (Some l)) (next (a, b))))
     third a b (inr e) next =
         subst (λ x. IsStatus lits (first ∷ l ∷ c) (if not x then Unresolved else clause_status lits c (Some l))) (sym e)
         (record {
@@ -142,14 +142,14 @@ status-after lits first (l ∷ c) free =
         IsStatus lits (first ∷ c) (clause_status lits c (Some first)) →
         (IsUnassigned lits l → IsStatus lits (l ∷ c) (clause_status lits c (Some l))) →
         IsStatus lits (first ∷ l ∷ c)
-            (if contains lits (opposite l) then clause_status lits c (Some first) else if not
-            (same_lit first l) then Unresolved else clause_status lits c (Some l))
+        (if contains lits (opposite l) then clause_status lits c (Some first) else if not
+        (same_lit first l) then Unresolved else clause_status lits c (Some l))
     second a (inl e) rest next =
         subst (λ x. IsStatus lits (first ∷ l ∷ c) (answer false x (not (same_lit first l)))) (sym e)
-            (false-second lits first l c (clause_status lits c (Some first)) e rest)
+        (false-second lits first l c (clause_status lits c (Some first)) e rest)
     second a (inr e) rest next =
         subst (λ x. IsStatus lits (first ∷ l ∷ c) (answer false x (not (same_lit first l)))) (sym e)
-            (third a e (true-or-false (same_lit first l)) next)
+        (third a e (true-or-false (same_lit first l)) next)
 
     by : (contains lits l ≡ true) ⊎ (contains lits l ≡ false) →
         IsStatus lits (first ∷ c) (clause_status lits c (Some first)) →
@@ -157,11 +157,11 @@ status-after lits first (l ∷ c) free =
         IsStatus lits (first ∷ l ∷ c) (clause_status lits (l ∷ c) (Some first))
     by (inl e) rest next =
         subst (λ x. IsStatus lits (first ∷ l ∷ c) (answer x (contains lits (opposite l)) (not (same_lit first l))))
-            (sym e)
+        (sym e)
         (contains-tail first (l ∷ c) l (contains-head l c), e)
     by (inr e) rest next =
         subst (λ x. IsStatus lits (first ∷ l ∷ c) (answer x (contains lits (opposite l)) (not (same_lit first l))))
-            (sym e)
+        (sym e)
         (second e (true-or-false (contains lits (opposite l))) rest next)
 
 status-from : (lits c : List Lit) → IsStatus lits c (clause_status lits c None)
@@ -175,7 +175,7 @@ status-from lits (l ∷ c) = by (true-or-false (contains lits l)) (status-from l
     second : contains lits l ≡ false → (contains lits (opposite l) ≡ true) ⊎ (contains lits (opposite l) ≡ false) →
         IsStatus lits c (clause_status lits c None) →
         IsStatus lits (l ∷ c)
-            (if contains lits (opposite l) then clause_status lits c None else clause_status lits c (Some l))
+        (if contains lits (opposite l) then clause_status lits c None else clause_status lits c (Some l))
     second a (inl e) rest =
         subst (λ x. IsStatus lits (l ∷ c) (answer false x)) (sym e)
         (false-head lits l c (clause_status lits c None) e rest)

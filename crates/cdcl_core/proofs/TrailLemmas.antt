@@ -42,27 +42,35 @@ propagated-kept : (cs : List Clause) (old : Trail) (new more : List Lit) → IsT
     new ≡ old.lits ++ more → All (λ s. ArePropagated (take s new) cs) old.level_starts
 propagated-kept cs old new more it h e k d lt =
     subst (λ lits. ArePropagated lits cs)
-        (sym (front old.lits new more (get_or old.level_starts k d) e (it.within k d lt))) (h k d lt)
+    (sym (front old.lits new more (get_or old.level_starts k d) e (it.within k d lt))) (h k d lt)
 
 pub ArePropagatedBefore-extends : (cs : List Clause) (old new : Trail) → IsTrail old → ArePropagatedBefore cs old →
     ExtendsTrail old new → ArePropagatedBefore cs new
 ArePropagatedBefore-extends cs old new it h e =
     subst (λ level_starts. All (λ s. ArePropagated (take s new.lits) cs) level_starts) (sym e.level_starts)
-        (propagated-kept cs old new.lits e.more_lits it h e.lits)
+    (propagated-kept cs old new.lits e.more_lits it h e.lits)
 
 -- ---- decisions
 
 -- the trail that a decision leaves
 abbrev pub decided : Trail → Lit → Trail
 decided t l =
-    record { variables = t.variables; lits = t.lits ++ l ∷ []; reasons = t.reasons ++ None ∷ [];
-    level_starts = t.level_starts ++ length t.lits ∷ [] }
+    record {
+      variables = t.variables;
+      lits = t.lits ++ l ∷ [];
+      reasons = t.reasons ++ None ∷ [];
+      level_starts = t.level_starts ++ length t.lits ∷ [];
+    }
 
 -- the trail in which a clause has forced a literal
 abbrev pub forced : Trail → Lit → ℕ → Trail
 forced t l reason =
-    record { variables = t.variables; lits = t.lits ++ l ∷ []; reasons = t.reasons ++ Some reason ∷ [];
-    level_starts = t.level_starts }
+    record {
+      variables = t.variables;
+      lits = t.lits ++ l ∷ [];
+      reasons = t.reasons ++ Some reason ∷ [];
+      level_starts = t.level_starts;
+    }
 
 pub ArePropagatedBefore-decided : (cs : List Clause) (old : Trail) (l : Lit) → IsTrail old →
     ArePropagatedBefore cs old → ArePropagated old.lits cs → ArePropagatedBefore cs (decided old l)
@@ -76,13 +84,13 @@ ArePropagatedBefore-decided cs old l it h propagated =
 -- a reason is kept where its literal stays, with the literals before it
 reason-kept : (cs : List Clause) (reason : ℕ) (before after : List Lit) (l : Lit) → after ≡ before →
     (c : Clause) × (slice_get cs reason ≡ Some c) × Forces before c.lits l →
-        (c : Clause) × (slice_get cs reason ≡ Some c) × Forces after c.lits l
+    (c : Clause) × (slice_get cs reason ≡ Some c) × Forces after c.lits l
 reason-kept cs reason before after l e h = (h.0, h.1, subst (λ lits. Forces lits h.0.lits l) (sym e) h.2)
 
 reasons-pushed : (cs : List Clause) (old : Trail) (l : Lit) (r : Option ℕ) → IsTrail old → AreReasons cs old →
     ((reason : ℕ) → r ≡ Some reason → (c : Clause) × (slice_get cs reason ≡ Some c) × Forces old.lits c.lits l) →
     (k reason : ℕ) (m : Lit) → slice_get (old.lits ++ l ∷ []) k ≡ Some m →
-        slice_get (old.reasons ++ r ∷ []) k ≡ Some (Some reason) →
+    slice_get (old.reasons ++ r ∷ []) k ≡ Some (Some reason) →
     (c : Clause) × (slice_get cs reason ≡ Some c) × Forces (take k (old.lits ++ l ∷ [])) c.lits m
 reasons-pushed cs old l r it h new k reason m at why =
     by (slice_get-push old.lits l k m at) (slice_get-push old.reasons r k (Some reason) why)
@@ -93,10 +101,10 @@ reasons-pushed cs old l r it h new k reason m at why =
     by (inl e) (inl f) =
         let within = slice_get_within old.lits k m e in
         reason-kept cs reason (take k old.lits) (take k (old.lits ++ l ∷ [])) m
-            (take-append-le k old.lits (l ∷ []) (omega arith)) (h k reason m e f)
+        (take-append-le k old.lits (l ∷ []) (omega arith)) (h k reason m e f)
     by (inr e) (inr f) =
         let same : take k (old.lits ++ l ∷ []) ≡ old.lits = ap (λ n. take n (old.lits ++ l ∷ [])) e.0
-            ∙ take-append_seam old.lits (l ∷ []) in
+        ∙ take-append_seam old.lits (l ∷ []) in
         subst (λ x. (c : Clause) × (slice_get cs reason ≡ Some c) × Forces (take k (old.lits ++ l ∷ [])) c.lits x) e.1
         (reason-kept cs reason old.lits (take k (old.lits ++ l ∷ [])) l same (new reason f.1))
     by (inl e) (inr f) =
@@ -119,7 +127,7 @@ pub AreReasons-forced : (cs : List Clause) (old : Trail) (l : Lit) (reason : ℕ
 AreReasons-forced cs old l reason c it h stands forces =
     reasons-pushed cs old l (Some reason) it h
     (λ n e. subst (λ x. (c : Clause) × (slice_get cs x ≡ Some c) × Forces old.lits c.lits l) (same_Some reason n e)
-        (c, stands, forces))
+    (c, stands, forces))
 
 pub AreReasons-more : (cs : List Clause) (c : Clause) (t : Trail) → AreReasons cs t → AreReasons (cs ++ c ∷ []) t
 AreReasons-more cs c t h k reason l at why =
@@ -133,11 +141,11 @@ pub AreReasons-cancelled : (cs : List Clause) (old new : Trail) (keep : ℕ) →
 AreReasons-cancelled cs old new keep it h e k reason l at why =
     let lit = slice_get-front e.place old.lits k l (ap (λ lits. slice_get lits k) (sym e.lits) ∙ at) in
     let because =
-        slice_get-front e.place old.reasons k (Some reason) (ap (λ reasons. slice_get reasons k) (sym e.reasons) ∙ why)
-        in
+    slice_get-front e.place old.reasons k (Some reason) (ap (λ reasons. slice_get reasons k) (sym e.reasons) ∙ why)
+    in
     let within = lit.0 in
     reason-kept cs reason (take k old.lits) (take k new.lits) l
-        (ap (take k) e.lits ∙ take-take k e.place old.lits (omega arith)) (h k reason l lit.1 because.1)
+    (ap (take k) e.lits ∙ take-take k e.place old.lits (omega arith)) (h k reason l lit.1 because.1)
 
 pub ArePropagatedBefore-cancelled : (cs : List Clause) (old new : Trail) (keep : ℕ) → ArePropagatedBefore cs old →
     IsCancelled old new keep → ArePropagatedBefore cs new
@@ -146,7 +154,7 @@ ArePropagatedBefore-cancelled cs old new keep h e k d lt =
     let below = kept.1 in
     let later = e.later in
     subst (λ lits. ArePropagated lits cs)
-        (sym
-        (ap (take (get_or new.level_starts k d)) e.lits
-        ∙ take-take (get_or new.level_starts k d) e.place old.lits (omega arith)))
+    (sym
+    (ap (take (get_or new.level_starts k d)) e.lits
+    ∙ take-take (get_or new.level_starts k d) e.place old.lits (omega arith)))
     (All-contains (λ s. ArePropagated (take s old.lits) cs) old.level_starts (get_or new.level_starts k d) h kept.0)

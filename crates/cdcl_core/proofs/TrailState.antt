@@ -30,7 +30,7 @@ distinct-pushed lits l h free k m at = by (slice_get-push lits l k m at)
         subst (λ front. IsUnassigned front m) (sym (take-append-le k lits (l ∷ []) (omega arith))) (h k m e)
     by (inr e) =
         let all : take k (lits ++ l ∷ []) ≡ lits = ap (λ n. take n (lits ++ l ∷ [])) e.0
-            ∙ take-append_seam lits (l ∷ []) in
+        ∙ take-append_seam lits (l ∷ []) in
         subst (λ x. IsUnassigned (take k (lits ++ l ∷ [])) x) e.1 (subst (λ front. IsUnassigned front l) (sym all) free)
 
 within-pushed : (lits : List Lit) (level_starts : List ℕ) (l : Lit) → All (λ s. s < length lits) level_starts →
@@ -126,7 +126,7 @@ pub unassigned-no_value : (lits : List Lit) (values : List (Option Bool)) (phase
     get_or values l.variable None ≡ None
 unassigned-no_value lits values phases l h there free =
     no_value (get_or values l.variable None) l.positive (sym (h.agree l there) ∙ free.0)
-        (sym (h.agree (opposite l) there) ∙ free.1)
+    (sym (h.agree (opposite l) there) ∙ free.1)
 
 contains-pushed_other : (lits : List Lit) (l m : Lit) → same_lit m l ≡ false →
     contains (lits ++ l ∷ []) m ≡ contains lits m
@@ -160,7 +160,7 @@ pub AreValues-more : (lits : List Lit) (values : List (Option Bool)) (phases : L
 AreValues-more lits values phases l h there free =
     let before = h.count in
     let empty : weight (get_or values l.variable None) ≡ weight None =
-        ap weight (unassigned-no_value lits values phases l h there free) in
+    ap weight (unassigned-no_value lits values phases l h there free) in
     let step = counted values l.variable (Some l.positive) there in
     record {
       agree =
@@ -178,7 +178,7 @@ AreValues-more lits values phases l h there free =
     one m (inl e) =
         subst (λ x. contains (lits ++ l ∷ []) x ≡ makes_true (set values l.variable (Some l.positive)) x) (sym e)
         (contains-right lits (l ∷ []) l (contains-head l [])
-            ∙ sym (ap (λ value. is_value value l.positive) written ∙ own_value l.positive))
+        ∙ sym (ap (λ value. is_value value l.positive) written ∙ own_value l.positive))
     one m (inr e) =
         subst (λ x. contains (lits ++ l ∷ []) x ≡ makes_true (set values l.variable (Some l.positive)) x) (sym e)
         (contains-pushed_other lits l (opposite l) (different (opposite l) l (λ s. opposite-differs l (sym s))) ∙ free.1
@@ -190,7 +190,7 @@ AreValues-more lits values phases l h there free =
     by m lt (inr ne) =
         contains-pushed_other lits l m (variable-differs l m ne) ∙ h.agree m lt
         ∙ ap (λ value. is_value value m.positive)
-            (sym (get_or-set_other values l.variable m.variable (Some l.positive) None ne))
+        (sym (get_or-set_other values l.variable m.variable (Some l.positive) None ne))
 
 some_value : (value : Option Bool) (sign : Bool) → is_value value sign ≡ true → weight value ≡ weight (Some sign)
 some_value None sign h = absurd (false≢true h)
@@ -202,8 +202,8 @@ pub AreValues-less : (lits : List Lit) (values : List (Option Bool)) (phases pha
 AreValues-less lits values phases phases' l h there free same =
     let before = h.count in
     let full =
-        some_value (get_or values l.variable None) l.positive
-        (sym (h.agree l there) ∙ contains-right lits (l ∷ []) l (contains-head l [])) in
+    some_value (get_or values l.variable None) l.positive
+    (sym (h.agree l there) ∙ contains-right lits (l ∷ []) l (contains-head l [])) in
     let step = counted values l.variable None there in
     record {
       agree =
@@ -246,16 +246,16 @@ room_for : (lits : List Lit) (values : List (Option Bool)) (phases : List Bool) 
     AreValues lits values phases → l.variable < length values → IsUnassigned lits l → length lits < length values
 room_for lits values phases l h there free =
     let fits =
-        fits-values (lits ++ l ∷ []) (set values l.variable (Some l.positive)) phases
-        (AreValues-more lits values phases l h there free) in
+    fits-values (lits ++ l ∷ []) (set values l.variable (Some l.positive)) phases
+    (AreValues-more lits values phases l h there free) in
     omega (arith, length_push lits l, length-set values l.variable (Some l.positive))
 
 pub state-forced : (lits : List Lit) (reasons : List (Option ℕ)) (level_starts : List ℕ) (values : List (Option Bool))
     (phases : List Bool) (t : Trail) (l : Lit) (reason : ℕ) (lits' : List Lit) (reasons' : List (Option ℕ)) →
     IsTrailState lits reasons level_starts values phases → trail_of lits reasons level_starts values ≡ t →
-        l.variable < t.variables → IsUnassigned t.lits l →
+    l.variable < t.variables → IsUnassigned t.lits l →
     lits' ≡ lits ++ l ∷ [] → reasons' ≡ reasons ++ Some reason ∷ [] →
-        IsTrailState lits' reasons' level_starts (set values l.variable (Some l.positive)) phases
+    IsTrailState lits' reasons' level_starts (set values l.variable (Some l.positive)) phases
 state-forced lits reasons level_starts values phases t l reason lits' reasons' h is there free e f =
     by (subst (λ (x : Trail). l.variable < x.variables) (sym is) there)
     (subst (λ (x : Trail). IsUnassigned x.lits l) (sym is) free)
@@ -264,23 +264,33 @@ state-forced lits reasons level_starts values phases t l reason lits' reasons' h
         IsTrailState lits' reasons' level_starts (set values l.variable (Some l.positive)) phases
     by there free =
         let trail =
-            IsTrail-forced (trail_of lits reasons level_starts values) l reason h.0 there free
-            (room_for lits values phases l h.1 there free) in
-        let same : record { variables = length (set values l.variable (Some l.positive)); lits = lits';
-            reasons = reasons'; level_starts = level_starts } ≡ forced (trail_of lits reasons level_starts values) l
-            reason =
-        λ i. record { variables = length-set values l.variable (Some l.positive) i; lits = e i; reasons = f i;
-            level_starts = level_starts } in
-        (subst IsTrail (sym same) trail, subst (λ x. AreValues x (set values l.variable (Some l.positive)) phases)
-            (sym e) (AreValues-more lits values phases l h.1 there free))
+        IsTrail-forced (trail_of lits reasons level_starts values) l reason h.0 there free
+        (room_for lits values phases l h.1 there free) in
+        let same : record {
+          variables = length (set values l.variable (Some l.positive));
+          lits = lits';
+          reasons = reasons';
+          level_starts = level_starts;
+        } ≡ forced (trail_of lits reasons level_starts values) l
+        reason =
+        λ i. record {
+          variables = length-set values l.variable (Some l.positive) i;
+          lits = e i;
+          reasons = f i;
+          level_starts = level_starts;
+        } in (
+          subst IsTrail (sym same) trail,
+          subst (λ x. AreValues x (set values l.variable (Some l.positive)) phases)
+              (sym e) (AreValues-more lits values phases l h.1 there free),
+        )
 
 pub state-decided : (lits : List Lit) (reasons : List (Option ℕ)) (level_starts : List ℕ) (values : List (Option Bool))
     (phases : List Bool) (t : Trail) (l : Lit) (lits' : List Lit) (reasons' : List (Option ℕ))
     (level_starts' : List ℕ) →
     IsTrailState lits reasons level_starts values phases → trail_of lits reasons level_starts values ≡ t →
-        l.variable < t.variables → IsUnassigned t.lits l →
+    l.variable < t.variables → IsUnassigned t.lits l →
     lits' ≡ lits ++ l ∷ [] → reasons' ≡ reasons ++ None ∷ [] → level_starts' ≡ level_starts ++ length lits ∷ [] →
-        IsTrailState lits' reasons' level_starts' (set values l.variable (Some l.positive)) phases
+    IsTrailState lits' reasons' level_starts' (set values l.variable (Some l.positive)) phases
 state-decided lits reasons level_starts values phases t l lits' reasons' level_starts' h is there free e f g =
     by (subst (λ (x : Trail). l.variable < x.variables) (sym is) there)
     (subst (λ (x : Trail). IsUnassigned x.lits l) (sym is) free)
@@ -289,14 +299,24 @@ state-decided lits reasons level_starts values phases t l lits' reasons' level_s
         IsTrailState lits' reasons' level_starts' (set values l.variable (Some l.positive)) phases
     by there free =
         let trail =
-            IsTrail-decided (trail_of lits reasons level_starts values) l h.0 there free
-            (room_for lits values phases l h.1 there free) in
-        let same : record { variables = length (set values l.variable (Some l.positive)); lits = lits';
-            reasons = reasons'; level_starts = level_starts' } ≡ decided (trail_of lits reasons level_starts values) l =
-        λ i. record { variables = length-set values l.variable (Some l.positive) i; lits = e i; reasons = f i;
-            level_starts = g i } in
-        (subst IsTrail (sym same) trail, subst (λ x. AreValues x (set values l.variable (Some l.positive)) phases)
-            (sym e) (AreValues-more lits values phases l h.1 there free))
+        IsTrail-decided (trail_of lits reasons level_starts values) l h.0 there free
+        (room_for lits values phases l h.1 there free) in
+        let same : record {
+          variables = length (set values l.variable (Some l.positive));
+          lits = lits';
+          reasons = reasons';
+          level_starts = level_starts';
+        } ≡ decided (trail_of lits reasons level_starts values) l =
+        λ i. record {
+          variables = length-set values l.variable (Some l.positive) i;
+          lits = e i;
+          reasons = f i;
+          level_starts = g i;
+        } in (
+          subst IsTrail (sym same) trail,
+          subst (λ x. AreValues x (set values l.variable (Some l.positive)) phases)
+              (sym e) (AreValues-more lits values phases l h.1 there free),
+        )
 
 -- ---- cancelled literals
 
@@ -310,26 +330,32 @@ All-slice_get P xs k x h at = subst P (get_or_from_slice_get xs k x x at) (h k x
 pub unassign_from-step : (all lits left : List Lit) (values : List (Option Bool)) (phases phases' : List Bool)
     (l : Lit) → HasDistinctVariables all → IsOver (length values) all →
     lits ≡ take (length lits) all → lits ≡ left ++ l ∷ [] → AreValues lits values phases →
-        length phases' ≡ length phases →
+    length phases' ≡ length phases →
     (left ≡ take (length left) all) × AreValues left (set values l.variable None) phases'
 unassign_from-step all lits left values phases phases' l distinct over front split h same =
     let shorter : length left ≤ length lits = omega (arith, ap length split, length_push left l) in
     let kept : left ≡ take (length left) all =
     sym (take-append_seam left (l ∷ [])) ∙ ap (take (length left)) (sym split ∙ front)
-        ∙ take-take (length left) (length lits) all shorter in
+    ∙ take-take (length left) (length lits) all shorter in
     let last : slice_get (take (length lits) all) (length left) ≡ Some l =
-        ap (λ xs. slice_get xs (length left)) (sym front ∙ split) ∙ slice_get-end left l in
+    ap (λ xs. slice_get xs (length left)) (sym front ∙ split) ∙ slice_get-end left l in
     let stands = slice_get-front (length lits) all (length left) l last in
     let free = subst (λ xs. IsUnassigned xs l) (sym kept) (distinct (length left) l stands.1) in
-    let there = All-slice_get (λ (m : Lit). m.variable < length values) all (length left) l over stands.1 in
-    (kept, AreValues-less left values phases phases' l (subst (λ xs. AreValues xs values phases) split h) there free
-        same)
+    let there = All-slice_get (λ (m : Lit). m.variable < length values) all (length left) l over stands.1 in (
+      kept,
+      AreValues-less left values phases phases' l (subst (λ xs. AreValues xs values phases) split h) there free
+          same,
+    )
 
 -- the trail as it was before the first decision at or after a place
 abbrev cancelled : Trail → ℕ → List ℕ → Trail
 cancelled t place level_starts =
-    record { variables = t.variables; lits = take place t.lits; reasons = take place t.reasons;
-    level_starts = level_starts }
+    record {
+      variables = t.variables;
+      lits = take place t.lits;
+      reasons = take place t.reasons;
+      level_starts = level_starts;
+    }
 
 -- what is left of the level starts before one of them
 record IsBefore (level_starts left : List ℕ) (place keep : ℕ) : Type 0 where
@@ -347,7 +373,7 @@ IsTrail-cancelled : (t : Trail) (left : List ℕ) (place keep : ℕ) → IsTrail
     IsTrail (cancelled t place left)
 IsTrail-cancelled t left place keep it b =
     let inside : place < length t.lits =
-        All-slice_get (λ s. s < length t.lits) t.level_starts (length left) place it.within b.first in
+    All-slice_get (λ s. s < length t.lits) t.level_starts (length left) place it.within b.first in
     let fits = it.fits in
     let lengths = it.explained in
     record {
@@ -375,9 +401,12 @@ IsTrail-cancelled t left place keep it b =
         stands = slice_get-get_or t.level_starts c.0 k c.1 ∙ ap Some c.2
 
         by : (c.0 < length left) ⊎ (length left ≤ c.0) → Contains left k
-        by (inl early) =
-            (c.0, early, ap (λ xs. get_or xs c.0 k) b.front ∙ get_or-take (length left) t.level_starts c.0 k early
-            ∙ c.2)
+        by (inl early) = (
+          c.0,
+          early,
+          ap (λ xs. get_or xs c.0 k) b.front ∙ get_or-take (length left) t.level_starts c.0 k early
+              ∙ c.2,
+        )
         by (inr late) = absurd (clash (cases_lt (length left) c.0))
           where
             clash : (length left < c.0) ⊎ (c.0 ≤ length left) → ⊥
@@ -417,8 +446,8 @@ IsCancelled-cancelled t left place keep it b = record {
             let last = slice_get-get_or left (length left - 1) 0 end in
             let below = b.before (get_or left (length left - 1) 0) last in
             let rises =
-                it.rising c.0 (length left - 1) s (get_or left (length left - 1) 0) early old.1
-                (left-at t.level_starts left place keep (length left - 1) (get_or left (length left - 1) 0) b last).1 in
+            it.rising c.0 (length left - 1) s (get_or left (length left - 1) 0) early old.1
+            (left-at t.level_starts left place keep (length left - 1) (get_or left (length left - 1) 0) b last).1 in
             omega arith
         by (inr late) =
             let inside = c.1 in
@@ -429,18 +458,18 @@ pub state-cancelled : (lits : List Lit) (reasons : List (Option ℕ)) (level_sta
     (values : List (Option Bool)) (t : Trail) (keep place : ℕ)
     (lits' : List Lit) (reasons' : List (Option ℕ)) (level_starts' : List ℕ) (values' : List (Option Bool)) →
     IsTrail (trail_of lits reasons level_starts values) → trail_of lits reasons level_starts values ≡ t →
-        level_starts' ≡ take (length level_starts') level_starts →
-        slice_get level_starts (length level_starts') ≡ Some place → keep ≤ place →
+    level_starts' ≡ take (length level_starts') level_starts →
+    slice_get level_starts (length level_starts') ≡ Some place → keep ≤ place →
     ((s : ℕ) → slice_get level_starts' (length level_starts' - 1) ≡ Some s → s < keep) → lits' ≡ take place lits →
-        reasons' ≡ take place reasons → length values' ≡ length values →
+    reasons' ≡ take place reasons → length values' ≡ length values →
     IsTrail (trail_of lits' reasons' level_starts' values') × IsCancelled t
-        (trail_of lits' reasons' level_starts' values') keep
+    (trail_of lits' reasons' level_starts' values') keep
 state-cancelled lits reasons level_starts values t keep place lits' reasons' level_starts' values' it is front first
     later before e f g =
     let b : IsBefore level_starts level_starts' place keep =
-        record { front = front; first = first; later = later; before = before } in
+    record { front = front; first = first; later = later; before = before } in
     let same : trail_of lits' reasons' level_starts' values' ≡ cancelled (trail_of lits reasons level_starts values)
-        place level_starts' =
+    place level_starts' =
     λ i. record { variables = g i; lits = e i; reasons = f i; level_starts = level_starts' } in (
       subst IsTrail (sym same)
           (IsTrail-cancelled (trail_of lits reasons level_starts values) level_starts' place keep it b),

@@ -81,11 +81,11 @@ pub record IsAsserting (lits c : List Lit) (l : Lit) (level_start keep : ℕ) : 
 
 -- what is learnt from a conflict: a chain, its clause, and the literal that the clause forces after the backjump
 pub record IsLearnt (cs : List Clause) (variables : ℕ) (lits : List Lit) (level_start : ℕ) (learnt : Learnt) : Type 0
-    where
-  pub lits_derived : List Lit
-  pub derives : derived cs learnt.chain ≡ Some lits_derived
-  pub same : AreSame lits_derived learnt.clause.lits
-  pub new_clause : IsNewClause cs learnt.clause.lits
-  pub over : IsOver variables learnt.clause.lits
-  pub asserting : IsAsserting lits learnt.clause.lits learnt.lit level_start learnt.keep
-  pub marks : length learnt.marks.items ≡ variables
+  where
+    pub lits_derived : List Lit
+    pub derives : derived cs learnt.chain ≡ Some lits_derived
+    pub same : AreSame lits_derived learnt.clause.lits
+    pub new_clause : IsNewClause cs learnt.clause.lits
+    pub over : IsOver variables learnt.clause.lits
+    pub asserting : IsAsserting lits learnt.clause.lits learnt.lit level_start learnt.keep
+    pub marks : length learnt.marks.items ≡ variables

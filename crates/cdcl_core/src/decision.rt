@@ -48,8 +48,9 @@ impl Scores {
     pub fn bump(&mut self, variable: usize)
         requires { variable < length self.old.scores }
         ensures { self.new ≡ record {
-            scores = set self.old.scores variable (raised self.old.step (score self.old.scores variable));
-            step = self.old.step } }
+          scores = set self.old.scores variable (raised self.old.step (score self.old.scores variable));
+          step = self.old.step;
+        } }
     {
         self.activity[variable] = self.activity[variable].saturating_add(self.step);
     }

@@ -79,7 +79,11 @@ enum Progress {
 }
 
 /// Makes one pass over the clauses, and assigns the literals of unit clauses.
-fn propagate_once(trail: &mut Trail, clauses: &[Clause], blockers: &mut Vec<Lit>) -> Result<Progress, AllocError>
+fn propagate_once(
+    trail: &mut Trail,
+    clauses: &[Clause],
+    blockers: &mut Vec<Lit>,
+) -> Result<Progress, AllocError>
     requires over { All (λ c. IsOver trail.old.variables c.lits) clauses.now }
     requires reasons { AreReasons clauses.now trail.old }
     requires blockers { AreBlockers clauses.now blockers.old.items }

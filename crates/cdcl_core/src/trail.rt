@@ -118,10 +118,11 @@ impl Trail {
         requires there { lit.variable < self.old.variables }
         requires unassigned { IsUnassigned self.old.lits lit }
         ensures ok { OnOk result (self.new ≡ record {
-            variables = self.old.variables;
-            lits = self.old.lits ++ lit ∷ [];
-            reasons = self.old.reasons ++ Some reason ∷ [];
-            level_starts = self.old.level_starts }) }
+          variables = self.old.variables;
+          lits = self.old.lits ++ lit ∷ [];
+          reasons = self.old.reasons ++ Some reason ∷ [];
+          level_starts = self.old.level_starts;
+        }) }
         ensures err { OnErr result (self.new ≡ self.old) }
         ensures was_trail { IsTrail self.old }
         ensures trail { IsTrail self.new }
@@ -136,15 +137,21 @@ impl Trail {
         requires there { lit.variable < self.old.variables }
         requires unassigned { IsUnassigned self.old.lits lit }
         ensures ok { OnOk result (self.new ≡ record {
-            variables = self.old.variables;
-            lits = self.old.lits ++ lit ∷ [];
-            reasons = self.old.reasons ++ None ∷ [];
-            level_starts = self.old.level_starts ++ length self.old.lits ∷ [] }) }
+          variables = self.old.variables;
+          lits = self.old.lits ++ lit ∷ [];
+          reasons = self.old.reasons ++ None ∷ [];
+          level_starts = self.old.level_starts ++ length self.old.lits ∷ [];
+        }) }
         ensures err { OnErr result (self.new ≡ self.old) }
         ensures was_trail { IsTrail self.old }
         ensures trail { IsTrail self.new }
     {
-        push_decision(&mut self.lits, &mut self.reasons, &mut self.level_starts, lit)?;
+        push_decision(
+            &mut self.lits,
+            &mut self.reasons,
+            &mut self.level_starts,
+            lit,
+        )?;
         self.values[lit.variable] = Some(lit.positive);
         Ok(())
     }
@@ -229,7 +236,12 @@ fn cancel_decisions(level_starts: &mut Vec<usize>, keep: usize) -> usize
 }
 
 /// Removes the literals from a place on, with their values, which stay as phases.
-fn unassign_from(lits: &mut Vec<Lit>, values: &mut Vec<Option<bool>>, phases: &mut Vec<bool>, place: usize)
+fn unassign_from(
+    lits: &mut Vec<Lit>,
+    values: &mut Vec<Option<bool>>,
+    phases: &mut Vec<bool>,
+    place: usize,
+)
     requires place { place ≤ length lits.old.items }
     requires distinct { HasDistinctVariables lits.old.items }
     requires over { IsOver (length values.old.items) lits.old.items }

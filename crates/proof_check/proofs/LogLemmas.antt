@@ -33,7 +33,7 @@ pub record Derives (variables : ℕ) (clauses : List Clause) (chains : List Chai
 -- no chain yet
 pub Derives-none : (variables : ℕ) (clauses : List Clause) (so_far : Literals) (earlier : List Clause) →
     so_far ≡ record { variables = variables; lits = [] } → earlier ≡ [] → AreOver variables clauses →
-        Derives variables clauses [] so_far earlier
+    Derives variables clauses [] so_far earlier
 Derives-none variables clauses so_far earlier is none over =
     let whole : clauses ≡ clauses ++ earlier = sym (append-nil clauses) ∙ ap (λ es. clauses ++ es) (sym none) in
     record {
@@ -51,37 +51,37 @@ pub Derives-more : (variables : ℕ) (clauses : List Clause) (chains : List Chai
     i < length chains → chain ≡ get_or chains i chain → Derives variables clauses (take i chains) old earlier →
     new.variables ≡ old.variables → new.lits ≡ [] → IsOver old.variables found.lits →
     ((c : List Lit) × (derived (clauses ++ earlier) chain ≡ Some c) × AreSame c found.lits) →
-        more ≡ earlier ++ found ∷ [] →
+    more ≡ earlier ++ found ∷ [] →
     Derives variables clauses (take (i + 1) chains) new more
 Derives-more variables clauses chains i chain old new earlier more found within is before kept empty over gave pushed =
     let cs = clauses ++ earlier in
     let mine =
-        same-Some (derived before.all chain) (derived cs chain) gave.0 (derived-same before.all cs chain before.same)
-        gave.1 in
+    same-Some (derived before.all chain) (derived cs chain) gave.0 (derived-same before.all cs chain before.same)
+    gave.1 in
     let whole : cs ++ found ∷ [] ≡ clauses ++ more = append_assoc clauses earlier (found ∷ [])
-        ∙ ap (λ es. clauses ++ es) (sym pushed) in
+    ∙ ap (λ es. clauses ++ es) (sym pushed) in
     let longer : take (i + 1) chains ≡ take i chains ++ chain ∷ [] =
-        take_more chains i chain within ∙ ap (λ x. take i chains ++ x ∷ []) (sym is) in
+    take_more chains i chain within ∙ ap (λ x. take i chains ++ x ∷ []) (sym is) in
     record {
       variables_kept = kept ∙ before.variables_kept;
       empty = empty;
       over = subst (AreOver variables) whole
           (All-push (λ (c : Clause). IsOver variables c.lits) cs found before.over
-              (subst (λ n. IsOver n found.lits) before.variables_kept over));
+          (subst (λ n. IsOver n found.lits) before.variables_kept over));
       all = before.all ++ clause mine.0 ∷ [];
       resolve =
           ap (with_chains clauses) longer
           ∙ with_chains-more clauses (take i chains) chain before.all mine.0 before.resolve mine.1;
       same = subst (AllSame (before.all ++ clause mine.0 ∷ [])) whole
           (AllSame-more before.all cs (clause mine.0) found before.same
-              (AreSame-trans mine.0 gave.0 found.lits mine.2 gave.2));
+          (AreSame-trans mine.0 gave.0 found.lits mine.2 gave.2));
     }
 
 -- a chain that does not resolve, after chains that do
 pub Derives-bad : (variables : ℕ) (clauses : List Clause) (chains : List Chain) (i : ℕ) (chain : Chain)
     (so_far : Literals) (earlier : List Clause) →
     i < length chains → chain ≡ get_or chains i chain → Derives variables clauses (take i chains) so_far earlier →
-        derived (clauses ++ earlier) chain ≡ None →
+    derived (clauses ++ earlier) chain ≡ None →
     IsFirstBad clauses chains i
 Derives-bad variables clauses chains i chain so_far earlier within is before bad =
     record {
@@ -105,38 +105,42 @@ empty-same cs ds same at =
 abbrev all-resolve : (variables : ℕ) (clauses : List Clause) (chains : List Chain) (i : ℕ) (so_far : Literals)
     (earlier : List Clause) →
     length chains ≤ i → (d : Derives variables clauses (take i chains) so_far earlier) →
-        with_chains clauses chains ≡ Some d.all
+    with_chains clauses chains ≡ Some d.all
 all-resolve variables clauses chains i so_far earlier past d = ap (with_chains clauses) (sym (take_all i chains past))
     ∙ d.resolve
 
 pub Derives-accepted : (variables : ℕ) (clauses : List Clause) (chains : List Chain) (i : ℕ) (so_far : Literals)
     (earlier : List Clause) →
     length chains ≤ i → Derives variables clauses (take i chains) so_far earlier →
-        Contains (clauses ++ earlier) (clause []) → IsAccepted clauses chains
-Derives-accepted variables clauses chains i so_far earlier past d at =
-    (d.all, all-resolve variables clauses chains i so_far earlier past d,
-        empty-same (clauses ++ earlier) d.all (AllSame-sym d.all (clauses ++ earlier) d.same) at)
+    Contains (clauses ++ earlier) (clause []) → IsAccepted clauses chains
+Derives-accepted variables clauses chains i so_far earlier past d at = (
+  d.all,
+  all-resolve variables clauses chains i so_far earlier past d,
+  empty-same (clauses ++ earlier) d.all (AllSame-sym d.all (clauses ++ earlier) d.same) at,
+)
 
 pub Derives-not_empty : (variables : ℕ) (clauses : List Clause) (chains : List Chain) (i : ℕ) (so_far : Literals)
     (earlier : List Clause) →
     length chains ≤ i → Derives variables clauses (take i chains) so_far earlier →
-        ¬ (Contains (clauses ++ earlier) (clause [])) → HasNoEmptyClause clauses chains
-Derives-not_empty variables clauses chains i so_far earlier past d none =
-    (d.all, all-resolve variables clauses chains i so_far earlier past d,
-        λ at. none (empty-same d.all (clauses ++ earlier) d.same at))
+    ¬ (Contains (clauses ++ earlier) (clause [])) → HasNoEmptyClause clauses chains
+Derives-not_empty variables clauses chains i so_far earlier past d none = (
+  d.all,
+  all-resolve variables clauses chains i so_far earlier past d,
+  λ at. none (empty-same d.all (clauses ++ earlier) d.same at),
+)
 
 -- ---- one verdict at most
 
 -- a bad chain leaves no clauses
 bad-before : (chains : List Chain) (cs : List Clause) (k n : ℕ) (before all : List Clause) (chain : Chain) →
     with_chains cs (take k chains) ≡ Some before → slice_get chains k ≡ Some chain → derived before chain ≡ None →
-        k < n →
+    k < n →
     with_chains cs (take n chains) ≡ Some all → ⊥
 bad-before [] cs k n before all chain resolve stands bad less end = none-some chain stands
 bad-before (x ∷ xs) cs k zero before all chain resolve stands bad less end = omega arith
 bad-before (x ∷ xs) cs zero (suc n) before all chain resolve stands bad less end =
     let here : derived cs x ≡ None = ap (λ c. derived c x) (same_Some cs before resolve)
-        ∙ ap (derived before) (same_Some x chain stands) ∙ bad in
+    ∙ ap (derived before) (same_Some x chain stands) ∙ bad in
     none-some all (sym (ap (option_and_then (λ lits. with_chains (cs ++ clause lits ∷ []) (take n xs))) here) ∙ end)
 bad-before (x ∷ xs) cs (suc k) (suc n) before all chain resolve stands bad less end =
     option_and_then_some (λ lits. with_chains (cs ++ clause lits ∷ []) (take k xs)) (derived cs x) before resolve
@@ -148,7 +152,7 @@ bad-never : (cs : List Clause) (chains : List Chain) (k : ℕ) (all : List Claus
     with_chains cs chains ≡ Some all → ⊥
 bad-never cs chains k all b end =
     bad-before chains cs k (length chains) b.before all b.chain b.resolve b.stands b.bad
-        (slice_get_within chains k b.chain b.stands)
+    (slice_get_within chains k b.chain b.stands)
     (ap (with_chains cs) (take_all (length chains) chains (omega arith)) ∙ end)
 
 bad-once : (cs : List Clause) (chains : List Chain) (j k : ℕ) → IsFirstBad cs chains j → IsFirstBad cs chains k → k ≡ j

@@ -29,18 +29,27 @@ all-right P xs ys h k d b =
 pub new_clause-append : (cs ds : List Clause) (c : List Lit) → IsNewClause cs c → IsNewClause ds c →
     IsNewClause (cs ++ ds) c
 new_clause-append cs ds c u w =
-    record { not_tautology = u.not_tautology; not_subsumed = All-append (λ (d : Clause). IsSubset d.lits c → ⊥) cs ds
-    u.not_subsumed w.not_subsumed }
+    record {
+      not_tautology = u.not_tautology;
+      not_subsumed = All-append (λ (d : Clause). IsSubset d.lits c → ⊥) cs ds
+          u.not_subsumed w.not_subsumed;
+    }
 
 pub new_clause-left : (cs ds : List Clause) (c : List Lit) → IsNewClause (cs ++ ds) c → IsNewClause cs c
 new_clause-left cs ds c u =
-    record { not_tautology = u.not_tautology; not_subsumed = all-left (λ (d : Clause). IsSubset d.lits c → ⊥) cs ds
-    u.not_subsumed }
+    record {
+      not_tautology = u.not_tautology;
+      not_subsumed = all-left (λ (d : Clause). IsSubset d.lits c → ⊥) cs ds
+          u.not_subsumed;
+    }
 
 pub new_clause-right : (cs ds : List Clause) (c : List Lit) → IsNewClause (cs ++ ds) c → IsNewClause ds c
 new_clause-right cs ds c u =
-    record { not_tautology = u.not_tautology; not_subsumed = all-right (λ (d : Clause). IsSubset d.lits c → ⊥) cs ds
-    u.not_subsumed }
+    record {
+      not_tautology = u.not_tautology;
+      not_subsumed = all-right (λ (d : Clause). IsSubset d.lits c → ⊥) cs ds
+          u.not_subsumed;
+    }
 
 -- the chain after some of a log of new clauses
 abbrev pub NextIsNewClause : List Clause → Chain → Type 0
@@ -51,7 +60,7 @@ new_clauses-next : (xs : List Chain) (cs all : List Clause) (chain : Chain) (mor
 new_clauses-next [] cs all chain more u h = subst (λ x. NextIsNewClause x chain) (same_Some cs all h) (u.0, u.1, u.2)
 new_clauses-next (x ∷ xs) cs all chain more u h =
     new_clauses-next xs (cs ++ clause u.0 ∷ []) all chain more u.3
-        (sym (ap (option_and_then (λ lits. with_chains (cs ++ clause lits ∷ []) xs)) u.1) ∙ h)
+    (sym (ap (option_and_then (λ lits. with_chains (cs ++ clause lits ∷ []) xs)) u.1) ∙ h)
 
 -- a list as its front, a member and the rest
 parted : (chains : List Chain) (i : ℕ) (d : Chain) → i < length chains →
@@ -61,24 +70,24 @@ parted chains i d h = sym (take-append-drop i chains) ∙ ap (λ rest. take i ch
 pub new_clauses-at : (variables : ℕ) (clauses : List Clause) (chains : List Chain) (i : ℕ) (chain : Chain)
     (so_far : Literals) (earlier : List Clause) →
     i < length chains → chain ≡ get_or chains i chain → (d : Derives variables clauses (take i chains) so_far earlier) →
-        AreNewClauses clauses chains → NextIsNewClause d.all chain
+    AreNewClauses clauses chains → NextIsNewClause d.all chain
 new_clauses-at variables clauses chains i chain so_far earlier within is d u =
     new_clauses-next (take i chains) clauses d.all chain (drop (suc i) chains)
     (subst (AreNewClauses clauses)
-        (parted chains i chain within ∙ ap (λ x. take i chains ++ x ∷ drop (suc i) chains) (sym is)) u) d.resolve
+    (parted chains i chain within ∙ ap (λ x. take i chains ++ x ∷ drop (suc i) chains) (sym is)) u) d.resolve
 
 -- a chain that does not resolve
 pub not-new_clauses-bad : (variables : ℕ) (clauses : List Clause) (chains : List Chain) (i : ℕ) (chain : Chain)
     (so_far : Literals) (earlier : List Clause) →
     i < length chains → chain ≡ get_or chains i chain → Derives variables clauses (take i chains) so_far earlier →
-        derived (clauses ++ earlier) chain ≡ None →
+    derived (clauses ++ earlier) chain ≡ None →
     AreNewClauses clauses chains → ⊥
 not-new_clauses-bad variables clauses chains i chain so_far earlier within is d bad u =
     let next = new_clauses-at variables clauses chains i chain so_far earlier within is d u in
     none-some next.0
-        (sym
-        (same-None (derived d.all chain) (derived (clauses ++ earlier) chain)
-        (derived-same d.all (clauses ++ earlier) chain d.same) bad) ∙ next.1)
+    (sym
+    (same-None (derived d.all chain) (derived (clauses ++ earlier) chain)
+    (derived-same d.all (clauses ++ earlier) chain d.same) bad) ∙ next.1)
 
 -- the clause of the next chain, as the kept clauses have it
 found-same : (all cs : List Clause) (chain : Chain) (lits c found : List Lit) → AllSame all cs →
@@ -91,25 +100,25 @@ pub not-new_clauses-old : (variables : ℕ) (clauses : List Clause) (chains : Li
     (so_far : Literals) (earlier : List Clause) (found : Clause) →
     i < length chains → chain ≡ get_or chains i chain → Derives variables clauses (take i chains) so_far earlier →
     ((c : List Lit) × (derived (clauses ++ earlier) chain ≡ Some c) × AreSame c found.lits) →
-        (IsNewClause (clauses ++ earlier) found.lits → ⊥) →
+    (IsNewClause (clauses ++ earlier) found.lits → ⊥) →
     AreNewClauses clauses chains → ⊥
 not-new_clauses-old variables clauses chains i chain so_far earlier found within is d gave old u =
     let next = new_clauses-at variables clauses chains i chain so_far earlier within is d u in
     let same = found-same d.all (clauses ++ earlier) chain next.0 gave.0 found.lits d.same next.1 gave.1 gave.2 in
     old (IsNewClause-same (clauses ++ earlier) d.all found.lits next.0 (AllSame-sym d.all (clauses ++ earlier) d.same)
-        (AreSame-sym next.0 found.lits same) next.2)
+    (AreSame-sym next.0 found.lits same) next.2)
 
 pub new_clauses-more : (variables : ℕ) (clauses : List Clause) (chains : List Chain) (i : ℕ) (chain : Chain)
     (so_far : Literals) (earlier : List Clause) (found : Clause) →
     i < length chains → chain ≡ get_or chains i chain → Derives variables clauses (take i chains) so_far earlier →
     ((c : List Lit) × (derived (clauses ++ earlier) chain ≡ Some c) × AreSame c found.lits) →
-        IsNewClause (clauses ++ earlier) found.lits →
+    IsNewClause (clauses ++ earlier) found.lits →
     AreNewClauses clauses (take i chains) → AreNewClauses clauses (take (i + 1) chains)
 new_clauses-more variables clauses chains i chain so_far earlier found within is d gave new_clause u =
     let mine =
-        same-Some (derived d.all chain) (derived (clauses ++ earlier) chain) gave.0
-        (derived-same d.all (clauses ++ earlier) chain d.same) gave.1 in
+    same-Some (derived d.all chain) (derived (clauses ++ earlier) chain) gave.0
+    (derived-same d.all (clauses ++ earlier) chain d.same) gave.1 in
     subst (AreNewClauses clauses) (sym (take_more chains i chain within ∙ ap (λ x. take i chains ++ x ∷ []) (sym is)))
     (AreNewClauses-more (take i chains) clauses chain d.all mine.0 u d.resolve mine.1
     (IsNewClause-same d.all (clauses ++ earlier) mine.0 found.lits d.same
-        (AreSame-trans mine.0 gave.0 found.lits mine.2 gave.2) new_clause))
+    (AreSame-trans mine.0 gave.0 found.lits mine.2 gave.2) new_clause))

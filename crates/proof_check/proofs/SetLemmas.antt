@@ -78,7 +78,7 @@ contains-still c lit l h = by (same_lit lit l) refl
 pub set-added : (variables : ℕ) (old new : Marks) (added : List Lit) (lit : Lit) → IsLitSet variables old added →
     length new.positive.items ≡ length old.positive.items → length new.negative.items ≡ length old.negative.items →
     ((l : Lit) → is_marked new l ≡ cond (same_lit lit l) true (is_marked old l)) →
-        IsLitSet variables new (added ++ lit ∷ [])
+    IsLitSet variables new (added ++ lit ∷ [])
 set-added variables old new added lit kept p n now = record {
   positive = p ∙ kept.positive;
   negative = n ∙ kept.negative;
@@ -203,16 +203,16 @@ Unmarks-move old now new lit rest lits marked p n is u = record {
         (contains (lits ++ lit ∷ []) l || is_marked new l) ≡ is_marked old l
     move l true s =
         let here : contains (lits ++ lit ∷ []) l ≡ true =
-            contains-right lits (lit ∷ []) l (ap (contains (lit ∷ [])) (sym (same_lit-true lit l s))
-            ∙ contains-head lit []) in
+        contains-right lits (lit ∷ []) l (ap (contains (lit ∷ [])) (sym (same_lit-true lit l s))
+        ∙ contains-head lit []) in
         let was : is_marked old l ≡ true =
-            sym (u.moved l)
-            ∙ or-right (contains lits l) (is_marked now l) (ap (is_marked now) (sym (same_lit-true lit l s)) ∙ marked)
-            in
+        sym (u.moved l)
+        ∙ or-right (contains lits l) (is_marked now l) (ap (is_marked now) (sym (same_lit-true lit l s)) ∙ marked)
+        in
         ap (λ b. b || is_marked new l) here ∙ sym was
     move l false s =
         let same : is_marked new l ≡ is_marked now l = is l ∙ ap (λ b. cond b false (is_marked now l)) s in
         let has_same : contains (lits ++ lit ∷ []) l ≡ contains lits l =
-            contains-push lits lit l ∙ ap (λ b. contains lits l || b) (same_lit-sym l lit ∙ s)
-            ∙ or-false (contains lits l) in
+        contains-push lits lit l ∙ ap (λ b. contains lits l || b) (same_lit-sym l lit ∙ s)
+        ∙ or-false (contains lits l) in
         (λ i. has_same i || same i) ∙ u.moved l

@@ -20,7 +20,7 @@ pub record Adds (old new : Literals) (lits : List Lit) : Type 0 where
 pub resolved : (c d removed new : List Lit) (pivot : Lit) → contains c pivot ≡ true →
     contains d (opposite pivot) ≡ true →
     ((l : Lit) → contains removed l ≡ (not (same_lit pivot l) && contains c l)) →
-        AreSame (removed ++ without (opposite pivot) d) new →
+    AreSame (removed ++ without (opposite pivot) d) new →
     (x : List Lit) × (resolvent c pivot d ≡ Some x) × AreSame x new
 resolved c d removed new pivot here there removes adds = (
   without pivot c ++ without (opposite pivot) d,
@@ -49,28 +49,31 @@ next-step : (cs : List Clause) (steps : List (Lit × ℕ)) (i : ℕ) (d : Lit ×
     i < length steps →
     slice_get cs (get_or steps i d).1 ≡ Some (clause lits) →
     after_steps cs c (drop i steps) ≡ option_and_then (λ x. after_steps cs x (drop (i + 1) steps))
-        (resolvent c (get_or steps i d).0 lits)
+    (resolvent c (get_or steps i d).0 lits)
 next-step cs steps i d c lits within e =
     let next : suc i ≡ i + 1 = omega arith in
     let cons : drop i steps ≡ get_or steps i d ∷ drop (i + 1) steps =
-        drop-cons steps i d within ∙ ap (λ n. get_or steps i d ∷ drop n steps) next in
+    drop-cons steps i d within ∙ ap (λ n. get_or steps i d ∷ drop n steps) next in
     ap (after_steps cs c) cons
-        ∙ ap (option_and_then (λ x. after_steps cs x (drop (i + 1) steps))) (step-at cs c (get_or steps i d) lits e)
+    ∙ ap (option_and_then (λ x. after_steps cs x (drop (i + 1) steps))) (step-at cs c (get_or steps i d) lits e)
 
 -- one more step
 pub Follows-more : (cs : List Clause) (steps : List (Lit × ℕ)) (i : ℕ) (d : Lit × ℕ) (lits : List Lit)
     (start now new : Literals) → i < length steps →
     slice_get cs (get_or steps i d).1 ≡ Some (clause lits) → new.variables ≡ now.variables →
     ((c : List Lit) → AreSame c now.lits → (x : List Lit) × (resolvent c (get_or steps i d).0 lits ≡ Some x) × AreSame x
-        new.lits) →
+    new.lits) →
     Follows cs steps (drop i steps) start now → Follows cs steps (drop (i + 1) steps) start new
 Follows-more cs steps i d lits start now new within e variables gives f = record {
   variables = variables ∙ f.variables;
   led = λ c same.
       let before = f.led c same in
-      let after = gives before.0 before.2 in
-      (after.0, before.1 ∙ next-step cs steps i d before.0 lits within e
-          ∙ ap (option_and_then (λ x. after_steps cs x (drop (i + 1) steps))) after.1, after.2);
+      let after = gives before.0 before.2 in (
+        after.0,
+        before.1 ∙ next-step cs steps i d before.0 lits within e
+            ∙ ap (option_and_then (λ x. after_steps cs x (drop (i + 1) steps))) after.1,
+        after.2,
+      );
 }
 
 -- a step that does not resolve
@@ -82,12 +85,12 @@ pub Follows-stops : (cs : List Clause) (steps : List (Lit × ℕ)) (i : ℕ) (d 
 Follows-stops cs steps i d lits start now within e gives f c same =
     let before = f.led c same in
     before.1 ∙ next-step cs steps i d before.0 lits within e
-        ∙ ap (option_and_then (λ x. after_steps cs x (drop (i + 1) steps))) (gives before.0 before.2)
+    ∙ ap (option_and_then (λ x. after_steps cs x (drop (i + 1) steps))) (gives before.0 before.2)
 
 -- no step left
 pub Follows-all : (cs : List Clause) (steps : List (Lit × ℕ)) (i : ℕ) (start now : Literals) → length steps ≤ i →
     Follows cs steps (drop i steps) start now → (c : List Lit) → AreSame c start.lits →
-        (x : List Lit) × (after_steps cs c steps ≡ Some x) × AreSame x now.lits
+    (x : List Lit) × (after_steps cs c steps ≡ Some x) × AreSame x now.lits
 Follows-all cs steps i start now past f c same =
     let before = f.led c same in
     (before.0, before.1 ∙ ap (after_steps cs before.0) (drop_all i steps past), before.2)

@@ -50,23 +50,93 @@ fn log(alloc: Global, pairs: &[(i32, usize)]) -> Result<Log, AllocError> {
 
 /// A name, a formula, a log over it, and the verdict.
 const VERDICTS: [(&str, &[i32], &[(i32, usize)], Verdict); 17] = [
-    ("a step", &[1, 0, -1, 0], &[(0, 0), (1, 1)], Verdict::Refuted),
-    ("repeats", &[1, 1, 0, -1, -1, 0], &[(0, 0), (1, 1)], Verdict::Refuted),
+    (
+        "a step",
+        &[1, 0, -1, 0],
+        &[(0, 0), (1, 1)],
+        Verdict::Refuted,
+    ),
+    (
+        "repeats",
+        &[1, 1, 0, -1, -1, 0],
+        &[(0, 0), (1, 1)],
+        Verdict::Refuted,
+    ),
     ("no step", &[1, 0, -1, 0], &[(0, 0)], Verdict::NotEmpty),
-    ("a tautology", &[1, 0, 1, -1, 0, -1, 0], &[(0, 0), (1, 1), (1, 2)], Verdict::Refuted),
-    ("one sign is left", &[1, -1, 0, -1, 0], &[(0, 0), (1, 1)], Verdict::NotEmpty),
-    ("two chains", &[1, 2, 0, -1, 2, 0, -2, 0], &[(0, 0), (1, 1), (0, 3), (2, 2)], Verdict::Refuted),
+    (
+        "a tautology",
+        &[1, 0, 1, -1, 0, -1, 0],
+        &[(0, 0), (1, 1), (1, 2)],
+        Verdict::Refuted,
+    ),
+    (
+        "one sign is left",
+        &[1, -1, 0, -1, 0],
+        &[(0, 0), (1, 1)],
+        Verdict::NotEmpty,
+    ),
+    (
+        "two chains",
+        &[1, 2, 0, -1, 2, 0, -2, 0],
+        &[(0, 0), (1, 1), (0, 3), (2, 2)],
+        Verdict::Refuted,
+    ),
     ("an empty clause", &[1, 0, 0], &[(0, 0)], Verdict::Refuted),
     ("no clause", &[], &[], Verdict::NotEmpty),
-    ("the same sign", &[1, 0, -1, 0], &[(0, 0), (1, 0)], Verdict::BadStep(0)),
-    ("only in the named clause", &[1, 0, -2, 0], &[(0, 0), (2, 1)], Verdict::BadStep(0)),
-    ("the pivot is gone", &[1, 0, -1, 0], &[(0, 0), (1, 1), (1, 1)], Verdict::BadStep(0)),
-    ("no such variable", &[1, 0, -1, 0], &[(0, 0), (i32::MAX, 1)], Verdict::BadStep(0)),
-    ("a chain over itself", &[1, 0, -1, 0], &[(0, 2)], Verdict::BadStep(0)),
-    ("a chain over a later one", &[1, 0, -1, 0], &[(0, 0), (1, 3), (0, 1)], Verdict::BadStep(0)),
-    ("no such clause", &[1, 0, -1, 0], &[(0, usize::MAX)], Verdict::BadStep(0)),
-    ("bad beside an empty clause", &[0], &[(0, 0), (1, 0)], Verdict::BadStep(0)),
-    ("bad after a refutation", &[1, 0, -1, 0], &[(0, 0), (1, 1), (0, 0), (1, 0)], Verdict::BadStep(1)),
+    (
+        "the same sign",
+        &[1, 0, -1, 0],
+        &[(0, 0), (1, 0)],
+        Verdict::BadStep(0),
+    ),
+    (
+        "only in the named clause",
+        &[1, 0, -2, 0],
+        &[(0, 0), (2, 1)],
+        Verdict::BadStep(0),
+    ),
+    (
+        "the pivot is gone",
+        &[1, 0, -1, 0],
+        &[(0, 0), (1, 1), (1, 1)],
+        Verdict::BadStep(0),
+    ),
+    (
+        "no such variable",
+        &[1, 0, -1, 0],
+        &[(0, 0), (i32::MAX, 1)],
+        Verdict::BadStep(0),
+    ),
+    (
+        "a chain over itself",
+        &[1, 0, -1, 0],
+        &[(0, 2)],
+        Verdict::BadStep(0),
+    ),
+    (
+        "a chain over a later one",
+        &[1, 0, -1, 0],
+        &[(0, 0), (1, 3), (0, 1)],
+        Verdict::BadStep(0),
+    ),
+    (
+        "no such clause",
+        &[1, 0, -1, 0],
+        &[(0, usize::MAX)],
+        Verdict::BadStep(0),
+    ),
+    (
+        "bad beside an empty clause",
+        &[0],
+        &[(0, 0), (1, 0)],
+        Verdict::BadStep(0),
+    ),
+    (
+        "bad after a refutation",
+        &[1, 0, -1, 0],
+        &[(0, 0), (1, 1), (0, 0), (1, 0)],
+        Verdict::BadStep(1),
+    ),
 ];
 
 #[test]
@@ -85,7 +155,11 @@ const NEW: [(&str, &[(i32, usize)], bool); 6] = [
     ("no chain", &[], true),
     ("two chains", &[(0, 0), (1, 1), (0, 0), (2, 2)], true),
     ("a clause of the formula", &[(0, 0)], false),
-    ("a subsumed clause", &[(0, 0), (1, 1), (0, 1), (-1, 0)], false),
+    (
+        "a subsumed clause",
+        &[(0, 0), (1, 1), (0, 1), (-1, 0)],
+        false,
+    ),
     ("a tautology", &[(0, 1), (2, 2)], false),
     ("a bad step", &[(0, 0), (1, 2)], false),
 ];

@@ -16,15 +16,15 @@ pub first_uip-requires-clause-marked : goal.first_uip-requires-clause-marked
 first_uip-requires-clause-marked c =
     let conflict = c.requires.conflict in
     let same : c.as_slice.result.now ≡ conflict.0.lits =
-        c.as_slice.ensures
-        ∙ ap (λ (x : Clause). x.lits)
-        (get_or_from_slice_get c.args.clauses.now c.args.conflict conflict.0 c.index-clauses-conflict.result conflict.1)
-        in
+    c.as_slice.ensures
+    ∙ ap (λ (x : Clause). x.lits)
+    (get_or_from_slice_get c.args.clauses.now c.args.conflict conflict.0 c.index-clauses-conflict.result conflict.1)
+    in
     let marks : (x : ℕ) → assigned c.deref_mut.result.now x ≡ contains_variable conflict.0.lits x =
-        λ x. ap (λ ms. assigned ms x) c.deref_mut.ensures.value ∙ c.in_ok-marks.ensures.marks x
-        ∙ ap (λ ls. contains_variable ls x) same in
+    λ x. ap (λ ms. assigned ms x) c.deref_mut.ensures.value ∙ c.in_ok-marks.ensures.marks x
+    ∙ ap (λ ls. contains_variable ls x) same in
     conflict-marked c.args.clauses.now c.args.lits.now c.args.level_start c.args.conflict conflict.0
-        c.deref_mut.result.now c.requires.distinct conflict.1 conflict.2 c.requires.propagated marks
+    c.deref_mut.result.now c.requires.distinct conflict.1 conflict.2 c.requires.propagated marks
 
 abbrev some : Lit
 some = record { variable = 0; positive = false }
@@ -50,9 +50,9 @@ returns c = record {
       subst (λ l. IsAsserting c.args.lits.now c.from_vec.result l c.args.level_start c.kept_length-keep.result)
       (sym c.opposite-lit.ensures)
       (collected-asserting marks c.args.lits.now c.args.level_start place c.kept_length-keep.result x c.from_vec.result
-          c.requires.distinct c.in_ok-place.ensures.point.0 at collected
+      c.requires.distinct c.in_ok-place.ensures.point.0 at collected
       (subst (λ ms. IsKeptLength ms c.args.lits.now c.args.level_start c.kept_length-keep.result)
-          (c.deref.ensures.value ∙ back) c.kept_length-keep.ensures));
+      (c.deref.ensures.value ∙ back) c.kept_length-keep.ensures));
   marks = ap length back ∙ size ∙ c.in_ok-marks.ensures.length;
 }
   where
@@ -89,9 +89,9 @@ returns c = record {
         (take (place + 1) c.args.lits.now)
     led = c.in_ok-place.ensures.steps c.requires.conflict.0.lits
         (subst (λ ss. Leads c.args.clauses.now c.requires.conflict.0.lits ss c.deref_mut.result.now c.args.lits.now)
-            (sym c.new-steps.ensures.items)
+        (sym c.new-steps.ensures.items)
         (leads-level_start c.args.clauses.now c.args.lits.now c.requires.conflict.0.lits c.deref_mut.result.now
-            c.requires.distinct c.requires.conflict.2 begin))
+        c.requires.distinct c.requires.conflict.2 begin))
 
     collected : IsCollected marks c.args.lits.now (opposite x) c.args.level_start c.from_vec.result
     collected =

@@ -6,8 +6,8 @@ use Rattle.cdcl_core.proofs.analysis.first_uip.Goals as goal
 pub loop-steps-init : goal.loop-steps-init
 loop-steps-init c =
     let found =
-        found_at c.args.marks.now c.args.lits.now c.args.level_start (length c.args.lits.now) c.unwrap-place.result
-        c.last_marked.result c.last_marked.ensures.some c.unwrap-place.ensures in (
+    found_at c.args.marks.now c.args.lits.now c.args.level_start (length c.args.lits.now) c.unwrap-place.result
+    c.last_marked.result c.last_marked.ensures.some c.unwrap-place.ensures in (
       refl,
       found.from_on,
       found.before,
@@ -16,15 +16,15 @@ loop-steps-init c =
       λ first before. leads-found c.args.clauses.now first c.args.steps.now.items c.args.marks.now c.args.lits.now
           c.args.level_start (length c.args.lits.now) c.unwrap-place.result found
           (subst (Leads c.args.clauses.now first c.args.steps.now.items c.args.marks.now)
-              (sym (take_all (length c.args.lits.now) c.args.lits.now (le_refl (length c.args.lits.now)))) before),
+          (sym (take_all (length c.args.lits.now) c.args.lits.now (le_refl (length c.args.lits.now)))) before),
     )
 
 pub loop-steps-preserved : goal.loop-steps-preserved
 loop-steps-preserved c =
     let found =
-        found_at c.resolve.new.marks c.args.lits.now c.args.level_start c.loop-steps.place
-        c.unwrap-place-in-loop-steps.result c.last_marked-in-loop-steps-2.result
-        c.last_marked-in-loop-steps-2.ensures.some c.unwrap-place-in-loop-steps.ensures in
+    found_at c.resolve.new.marks c.args.lits.now c.args.level_start c.loop-steps.place
+    c.unwrap-place-in-loop-steps.result c.last_marked-in-loop-steps-2.result
+    c.last_marked-in-loop-steps-2.ensures.some c.unwrap-place-in-loop-steps.ensures in
     let before = found.before in
     let within = c.loop-steps.invariant.2 in (
       c.resolve.ensures.length ∙ c.loop-steps.invariant.0,

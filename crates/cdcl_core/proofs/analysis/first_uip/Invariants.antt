@@ -11,7 +11,7 @@ invariant-loop-steps l =
     × (l.place < length l.lits)
     × ((x : Lit) → slice_get l.lits l.place ≡ Some x → assigned l.marks x.variable ≡ true)
     × ((first : List Lit) → Leads l.clauses first l.initial.steps.items l.initial.marks l.lits →
-        Leads l.clauses first l.steps.items l.marks (take (l.place + 1) l.lits))
+    Leads l.clauses first l.steps.items l.marks (take (l.place + 1) l.lits))
 
 abbrev pub decreases-loop-steps : goal.decreases-loop-steps
 decreases-loop-steps l = l.place

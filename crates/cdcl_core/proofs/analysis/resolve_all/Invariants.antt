@@ -8,7 +8,7 @@ invariant-loop-marks l =
     (length l.marks ≡ length l.initial.marks)
     × (l.end ≤ length l.lits)
     × ((first : List Lit) → Leads l.clauses first l.initial.steps.items l.initial.marks l.lits →
-        Leads l.clauses first l.steps.items l.marks (take l.end l.lits))
+    Leads l.clauses first l.steps.items l.marks (take l.end l.lits))
 
 abbrev pub decreases-loop-marks : goal.decreases-loop-marks
 decreases-loop-marks l = l.end

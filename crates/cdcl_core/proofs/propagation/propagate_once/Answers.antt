@@ -35,20 +35,20 @@ pub status_by_blocker-requires-clause-blocker : goal.status_by_blocker-requires-
 status_by_blocker-requires-clause-blocker c =
     let at : slice_get c.args.clauses.now c.loop-number.number ≡ Some c.index-clauses-number.result =
     slice_get_read c.args.clauses.now (length c.args.clauses.now) c.loop-number.number c.index-clauses-number.result
-        refl (omega arith) c.index-clauses-number.is in
+    refl (omega arith) c.index-clauses-number.is in
     subst (λ l. contains c.index-clauses-number.result.lits l ≡ true) (sym c.index.ensures)
     (blocker-at c.args.clauses.now c.loop-number.blockers.items c.loop-number.number c.index-clauses-number.result
-        c.index.result.now c.loop-number.invariant.1 at)
+    c.index.result.now c.loop-number.invariant.1 at)
 
 pub assign-requires-clause-there : goal.assign-requires-clause-there
 assign-requires-clause-there c =
     let inside : c.loop-number.number < length c.args.clauses.now = omega arith in
     let over =
-        subst (λ (x : Clause). IsOver c.args.trail.now.variables x.lits) (sym c.index-clauses-number.is)
-        (c.requires.over c.loop-number.number c.index-clauses-number.result inside) in
+    subst (λ (x : Clause). IsOver c.args.trail.now.variables x.lits) (sym c.index-clauses-number.is)
+    (c.requires.over c.loop-number.number c.index-clauses-number.result inside) in
     subst (λ n. c.in-Unit.lit.variable < n) (sym c.loop-number.invariant.0.extends.variables)
     (over-at c.args.trail.now.variables c.index-clauses-number.result.lits c.in-Unit.lit over
-        c.in-Unit.ensures.0.stands)
+    c.in-Unit.ensures.0.stands)
 
 pub returns-in-Falsified-clause-tells : goal.returns-in-Falsified-clause-tells
 returns-in-Falsified-clause-tells c =
@@ -64,16 +64,19 @@ loop-number-preserved c =
     let inside : c.loop-number.number < length c.args.clauses.now = omega arith in
     let at : slice_get c.args.clauses.now c.loop-number.number ≡ Some c.index-clauses-number.result =
     slice_get_read c.args.clauses.now (length c.args.clauses.now) c.loop-number.number c.index-clauses-number.result
-        refl inside c.index-clauses-number.is in
+    refl inside c.index-clauses-number.is in
     elim c.match-status_by_blocker.branch [
       | in-Satisfied w ↦ (
         progress w.trail-is w.changed-is
             (propagate_once-propagated c.args.clauses.now c.args.trail.now c.loop-number.trail c.loop-number.number
             c.loop-number.changed c.index-clauses-number.result
             c.loop-number.invariant.0 at
-                (inl
-                (record { lit = w.in-Satisfied.lit; stands = w.in-Satisfied.ensures.0;
-                holds = w.in-Satisfied.ensures.1 }))),
+            (inl
+            (record {
+              lit = w.in-Satisfied.lit;
+              stands = w.in-Satisfied.ensures.0;
+              holds = w.in-Satisfied.ensures.1;
+            }))),
         blockers w.blockers-is
             (blockers-set c.args.clauses.now c.loop-number.blockers.items c.loop-number.number
             c.index-clauses-number.result w.in-Satisfied.lit
@@ -92,7 +95,7 @@ loop-number-preserved c =
             c.loop-number.number c.loop-number.changed
             c.index-clauses-number.result w.in-Unit.lit c.loop-number.invariant.0 at w.in-Unit.ensures.0
             w.in_ok-assign-in-Unit.ensures.was_trail w.in_ok-assign-in-Unit.ensures.trail
-                w.in_ok-assign-in-Unit.ensures.ok),
+            w.in_ok-assign-in-Unit.ensures.ok),
         blockers w.blockers-is c.loop-number.invariant.1,
       )
     ]
@@ -101,11 +104,11 @@ loop-number-preserved c =
         c.match-status_by_blocker.changed ≡ changed →
         IsPropagating c.args.clauses.now c.args.trail.now t (c.loop-number.number + 1) changed →
         IsPropagating c.args.clauses.now c.args.trail.now c.match-status_by_blocker.trail (c.loop-number.number + 1)
-            c.match-status_by_blocker.changed
+        c.match-status_by_blocker.changed
     progress {t} {changed} e f h =
         subst₂
-            (λ (x : Trail) (b : Bool). IsPropagating c.args.clauses.now c.args.trail.now x (c.loop-number.number + 1) b)
-            (sym e) (sym f) h
+        (λ (x : Trail) (b : Bool). IsPropagating c.args.clauses.now c.args.trail.now x (c.loop-number.number + 1) b)
+        (sym e) (sym f) h
 
     blockers : {blockers : Vec Lit Global} → c.match-status_by_blocker.blockers ≡ blockers →
         AreBlockers c.args.clauses.now blockers.items →
@@ -115,4 +118,4 @@ loop-number-preserved c =
 pub returns-else-changed-clause-tells : goal.returns-else-changed-clause-tells
 returns-else-changed-clause-tells c =
     propagate_once-ends c.args.clauses.now c.loop-number.trail.lits c.loop-number.number (omega arith)
-        (c.loop-number.invariant.0.fixpoint c.if-changed.false)
+    (c.loop-number.invariant.0.fixpoint c.if-changed.false)

@@ -17,11 +17,11 @@ returns-in_default-clause-before c =
 pub loop-conflict-preserved : goal.loop-conflict-preserved
 loop-conflict-preserved c =
     let before =
-        ArePropagatedBefore-extends c.args.clauses.now c.loop-conflict.trail c.propagate.new.trail
-        c.loop-conflict.invariant.0 c.loop-conflict.invariant.3 c.in_ok-conflict.ensures.extends in
+    ArePropagatedBefore-extends c.args.clauses.now c.loop-conflict.trail c.propagate.new.trail
+    c.loop-conflict.invariant.0 c.loop-conflict.invariant.3 c.in_ok-conflict.ensures.extends in
     let propagated =
-        where_none c.in_ok-conflict.conflict (ArePropagated c.propagate.new.trail.lits c.args.clauses.now)
-        c.in_ok-conflict.ensures.propagated (sym c.is_some.ensures ∙ c.if-is_some.false) in (
+    where_none c.in_ok-conflict.conflict (ArePropagated c.propagate.new.trail.lits c.args.clauses.now)
+    c.in_ok-conflict.ensures.propagated (sym c.is_some.ensures ∙ c.if-is_some.false) in (
       c.decide.ensures.trail,
       ap (λ (t : Trail). t.variables) c.in_ok-decide.ensures.ok ∙ c.in_ok-conflict.ensures.extends.variables
           ∙ c.loop-conflict.invariant.1,

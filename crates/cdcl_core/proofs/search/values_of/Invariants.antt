@@ -6,4 +6,4 @@ abbrev pub invariant-loop-variable : goal.invariant-loop-variable
 invariant-loop-variable l =
     (length l.values.items ≡ l.variable)
     × ((x : ℕ) → x < l.variable →
-        assigned l.values.items x ≡ contains l.trail.lits (record { variable = x; positive = true }))
+    assigned l.values.items x ≡ contains l.trail.lits (record { variable = x; positive = true }))

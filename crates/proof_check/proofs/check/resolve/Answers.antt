@@ -12,4 +12,4 @@ returns-clause-resolvent c = λ d same.
     (ap (contains c.args.lits.now) (sym c.opposite-opposite.ensures) ∙ sym c.contains.ensures ∙ c.if-not-contains.false)
     (λ l. c.remove.ensures.lits l ∙ ap (λ b. not (same_lit c.args.pivot l) && b) (sym (same l)))
     (subst (λ (o : Lit). AreSame (c.remove.new.self.lits ++ without o c.args.lits.now) c.add_without.new.so_far.lits)
-        c.opposite-opposite.ensures c.in_ok-add_without.ensures.lits)
+    c.opposite-opposite.ensures c.in_ok-add_without.ensures.lits)

@@ -4,9 +4,9 @@ use Rattle.cdcl_core.proofs.trail.Trail.decide.Goals as goal
 pub invariant_of-self-2 : goal.invariant_of-self-2
 invariant_of-self-2 c =
     state-decided c.self.inside.lits.items c.self.inside.reasons.items c.self.inside.level_starts.items
-        c.self.inside.values.items c.self.inside.phases.items c.args.self.now
+    c.self.inside.values.items c.self.inside.phases.items c.args.self.now
     c.args.lit c.push_decision.new.lits.items c.push_decision.new.reasons.items c.push_decision.new.level_starts.items
-        c.self.invariant c.self.view_is c.requires.there c.requires.unassigned
+    c.self.invariant c.self.view_is c.requires.there c.requires.unassigned
     c.in_ok-push_decision.ensures.lits c.in_ok-push_decision.ensures.reasons c.in_ok-push_decision.ensures.level_starts
 
 pub returns-clause-trail : goal.returns-clause-trail

@@ -8,17 +8,17 @@ pub returns-then-is_marked-clause-lits : goal.returns-then-is_marked-clause-lits
 returns-then-is_marked-clause-lits c = λ l.
     contains-again c.args.self.now.lits c.args.lit l
     (set-marked c.self.inside.variables c.self.inside.marks c.self.inside.added.items c.args.self.now c.self.invariant
-        c.self.view_is c.args.lit ∙ sym c.is_marked.ensures ∙ c.if-is_marked.true)
+    c.self.view_is c.args.lit ∙ sym c.is_marked.ensures ∙ c.if-is_marked.true)
 
 pub returns-clause-lits : goal.returns-clause-lits
 returns-clause-lits c = λ l.
     let kept =
-        set-added c.self.inside.variables c.self.inside.marks c.set.new.self c.self.inside.added.items c.args.lit
-        c.self.invariant c.set.ensures.positive c.set.ensures.negative c.set.ensures.marks in
+    set-added c.self.inside.variables c.self.inside.marks c.set.new.self c.self.inside.added.items c.args.lit
+    c.self.invariant c.set.ensures.positive c.set.ensures.negative c.set.ensures.marks in
     let kept_here = subst (IsLitSet c.self.inside.variables c.set.new.self) (sym c.in_ok-push.ensures.items) kept in
     literals-marked c.self.inside.variables c.set.new.self c.push.new.self.items kept_here l
     ∙ added-marked c.self.inside.marks c.set.new.self c.args.lit c.set.ensures.marks l
     ∙ ap (λ b. same_lit c.args.lit l || b)
-        (sym
-        (set-marked c.self.inside.variables c.self.inside.marks c.self.inside.added.items c.args.self.now
-        c.self.invariant c.self.view_is l))
+    (sym
+    (set-marked c.self.inside.variables c.self.inside.marks c.self.inside.added.items c.args.self.now
+    c.self.invariant c.self.view_is l))
