@@ -1,74 +1,65 @@
 //! Values, new clauses and the laws, on formulas over two variables.
 
-ghost use Rattle.std.specs.Prelude.{◌≡◌};
+ghost use Rattle.std.specs.Prelude.{◌≡◌, ◌∷◌, [], IfOk};
 
 use crate::{Chain, Clause, Cnf, Lit, Log, is_new_clause, new_clauses_bound, no_model};
 use collections::Seq;
 use std::alloc::{AllocError, Global};
 use std::test::Fail;
 
-const X: Lit = Lit {
-    variable: 0,
-    positive: true,
-};
-
-const NOT_X: Lit = Lit {
-    variable: 0,
-    positive: false,
-};
-
-const Y: Lit = Lit {
-    variable: 1,
-    positive: true,
-};
-
-const NOT_Y: Lit = Lit {
-    variable: 1,
-    positive: false,
-};
-
-fn clause(lits: Vec<Lit>) -> Clause
-    ensures { result.lits ≡ lits.items }
-{
-    Clause {
-        lits: Seq::from_vec(lits),
-    }
-}
-
-#[test]
-fn a_value_is_that_of_every_clause(rt: HostRuntime) -> Result<(), Fail> {
-    let mut cnf = Cnf::new(rt.alloc(), 2);
-    assert!(rt; cnf.value(&[false, false]), "no clause");
-    cnf.push(clause(vec![in rt.alloc(); X, NOT_Y]?))?;
-    cnf.push(clause(vec![in rt.alloc(); NOT_X, Y]?))?;
-    for (name, assignment, value) in [
-        ("neither", [false, false], true),
-        ("y alone", [false, true], false),
-        ("x alone", [true, false], false),
-        ("both", [true, true], true),
-    ] {
-        assert_eq!(rt; cnf.value(assignment.as_slice()), value, "{name}");
-    }
-    cnf.push(clause(vec![in rt.alloc()]?))?;
-    assert!(rt; !cnf.value(&[true, true]), "an empty clause");
-    Ok(())
-}
-
 /// The literal of a number: a variable from 1, negative for its negation.
 fn lit(number: i32) -> Lit {
     Lit {
-        variable: number.unsigned_abs() as usize,
+        variable: number.unsigned_abs().saturating_sub(1) as usize,
         positive: number > 0,
     }
 }
 
 /// The clause of such numbers.
-fn numbered(alloc: Global, numbers: &[i32]) -> Result<Clause, AllocError> {
-    let mut lits = Vec::new(alloc);
+fn clause(alloc: Global, numbers: &[i32]) -> Result<Clause, AllocError> {
+    let mut lits = Seq::new(alloc);
     for number in numbers {
         lits.push(lit(*number))?;
     }
-    Ok(clause(lits))
+    Ok(Clause { lits })
+}
+
+/// The formula over two variables of such numbers, in which 0 ends a clause.
+fn formula(alloc: Global, numbers: &[i32]) -> Result<Cnf, AllocError>
+    ensures { IfOk result (λ cnf. cnf.variables ≡ 2) }
+{
+    let mut cnf = Cnf::new(alloc, 2);
+    let mut lits = Seq::new(alloc);
+    for number in numbers {
+        let lit = lit(*number);
+        if *number == 0 {
+            cnf.push(Clause { lits })?;
+            lits = Seq::new(alloc);
+        } else if lit.variable < 2 {
+            lits.push(lit)?;
+        }
+    }
+    Ok(cnf)
+}
+
+/// A name, a formula of x and y, an assignment, and whether it is a model.
+const VALUES: [(&str, &[i32], [bool; 2], bool); 7] = [
+    ("no clause", &[], [false, false], true),
+    ("an empty clause", &[1, 0, 0], [true, true], false),
+    ("neither", &[1, -2, 0, -1, 2, 0], [false, false], true),
+    ("y alone", &[1, -2, 0, -1, 2, 0], [false, true], false),
+    ("x alone", &[1, -2, 0, -1, 2, 0], [true, false], false),
+    ("both", &[1, -2, 0, -1, 2, 0], [true, true], true),
+    ("the last clause", &[1, 0, -1, 0], [true, false], false),
+];
+
+#[test]
+fn a_model_makes_every_clause_true(rt: HostRuntime) -> Result<(), Fail> {
+    for (name, numbers, assignment, wanted) in VALUES {
+        let cnf = formula(rt.alloc(), numbers)?;
+        assert_eq!(rt; cnf.value(&assignment), wanted, "{name}");
+    }
+    Ok(())
 }
 
 /// A name, two earlier clauses, a clause, and whether it is new.
@@ -87,25 +78,37 @@ const NEW: [(&str, &[i32], &[i32], &[i32], bool); 8] = [
 fn a_new_clause_is_no_tautology_and_not_subsumed(rt: HostRuntime) -> Result<(), Fail> {
     for (name, first, second, last, wanted) in NEW {
         let mut earlier = Vec::new(rt.alloc());
-        earlier.push(numbered(rt.alloc(), first)?)?;
-        earlier.push(numbered(rt.alloc(), second)?)?;
-        let last = numbered(rt.alloc(), last)?;
+        earlier.push(clause(rt.alloc(), first)?)?;
+        earlier.push(clause(rt.alloc(), second)?)?;
+        let last = clause(rt.alloc(), last)?;
         assert_eq!(rt; is_new_clause(&earlier, &last), wanted, "{name}");
     }
     Ok(())
 }
 
+/// The clause of one literal.
+fn unit(alloc: Global, lit: Lit) -> Result<Clause, AllocError>
+    ensures { IfOk result (λ c. c.lits ≡ lit ∷ []) }
+{
+    Ok(Clause {
+        lits: Seq::from_vec(vec![in alloc; lit]?),
+    })
+}
+
 #[test]
 fn a_refuted_formula_has_no_model(rt: HostRuntime) -> Result<(), Fail> {
+    let x = Lit {
+        variable: 0,
+        positive: true,
+    };
     let mut cnf = Cnf::new(rt.alloc(), 1);
-    cnf.push(clause(vec![in rt.alloc(); X]?))?;
-    cnf.push(clause(vec![in rt.alloc(); NOT_X]?))?;
-    let steps = Seq::from_vec(vec![in rt.alloc(); (X, 1)]?);
+    cnf.push(unit(rt.alloc(), x)?)?;
+    cnf.push(unit(rt.alloc(), x.opposite())?)?;
+    let steps = Seq::from_vec(vec![in rt.alloc(); (x, 1)]?);
     let chains = Seq::from_vec(vec![in rt.alloc(); Chain { first: 0, steps }]?);
     let log = Log { chains };
     no_model(&cnf, &log);
     new_clauses_bound(&cnf, &log);
-    assert!(rt; !cnf.value(&[false]), "not x");
-    assert!(rt; !cnf.value(&[true]), "x");
+    assert!(rt; !cnf.value(&[true]));
     Ok(())
 }
