@@ -303,7 +303,7 @@ collected-asserting marks lits level_start place keep x c consistent h at k kept
             λ l t.
             others keep kept n b l
             (or-cases (same_lit l (opposite x))
-                (contains (take level_start lits) (opposite l) && assigned marks l.variable)
+            (contains (take level_start lits) (opposite l) && assigned marks l.variable)
             (sym (k l) ∙ t));
       };
   propagated = λ n b. inr (two keep kept n b);

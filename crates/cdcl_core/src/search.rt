@@ -208,8 +208,8 @@ impl Search {
     ) -> Result<(), AllocError>
         requires ready { IsReady self.old }
         requires conflict { IsConflict self.old.trail.lits self.old.clauses.items conflict }
-        requires level_start
-            { slice_get self.old.trail.level_starts (length self.old.trail.level_starts - 1) ≡ Some level_start }
+        requires level_start { slice_get self.old.trail.level_starts (length self.old.trail.level_starts - 1)
+            ≡ Some level_start }
         ensures ready { OnOk result (IsReady self.new) }
         ensures trail { OnOk result (IsTrail self.new.trail) }
         ensures variables { OnOk result (self.new.trail.variables ≡ self.old.trail.variables) }

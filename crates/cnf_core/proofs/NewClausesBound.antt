@@ -1,5 +1,5 @@
--- How many clauses over n variables there can be, where none is a tautology and no earlier one is a subset of a later one:
--- at most 3^n, since each of them has a row of signs (absent, positive or negative) of its own.
+-- How many clauses over n variables there can be, where none is a tautology and no earlier one is a subset of a later
+-- one: at most 3^n, since each of them has a row of signs (absent, positive or negative) of its own.
 use Rattle.std.proofs.Common.{◌≡◌, ℕ, zero, suc, ◌+◌, ◌*◌, ◌^◌, ◌<◌, ◌≤◌, Bool, true, false, cond, eqb, filter, List}
 use Rattle.std.proofs.Common.{[], ◌∷◌, ◌++◌, length, map, Some, All, Contains, refl, sym, ap, ◌∙◌, subst, inl, inr}
 use Rattle.std.proofs.Common.{arith, pow-suc, append-nil, append_assoc}
