@@ -1,79 +1,101 @@
 -- Steps of resolution, back along a trail.
-use Rattle.std.proofs.Common.{◌≡◌, ℕ, ◌+◌, ◌<◌, ◌≤◌, ◌&&◌, ◌||◌, Bool, true, false, not, cond, List, [], ◌∷◌, ◌++◌, subst, sym, ap, ◌∙◌, arith, ◌⊎◌, inl, inr, take, get_or, slice_get, Option, Some, None, option_and_then, IfSome}
+use Rattle.std.proofs.Common.{◌≡◌, ℕ, ◌+◌, ◌<◌, ◌≤◌, ◌&&◌, ◌||◌, Bool, true, false, not, cond, List, [], ◌∷◌, ◌++◌}
+use Rattle.std.proofs.Common.{subst, sym, ap, ◌∙◌, arith, ◌⊎◌, inl, inr, take, get_or, slice_get, Option, Some, None}
+use Rattle.std.proofs.Common.{option_and_then, IfSome}
 use Rattle.std.proofs.lemmas.Bool.{false≢true, cases_lt}
 use Rattle.std.proofs.lemmas.Option.{same_Some, get_or_from_slice_get}
 use Rattle.cnf_core.specs.declared.clause.Lit.{Lit}
 use Rattle.cnf_core.specs.declared.clause.Clause.{Clause}
-use Rattle.cnf_core.specs.Clause.{opposite, same_lit, has, assigned}
+use Rattle.cnf_core.specs.Clause.{opposite, same_lit, contains, assigned}
 use Rattle.cnf_core.specs.Resolution.{without, resolvent, step}
-use Rattle.cnf_core.proofs.Sets.{true-or-false, and-left, and-right, and-both, or-cases, or-left, or-right, same_test, same_lit-true, same_lit-from, has-left, has-right, has-cases, has-without, opposite-opposite, same_variable}
+use Rattle.cnf_core.proofs.Sets.{true-or-false, and-left, and-right, and-both, or-cases, or-left, or-right, same_test}
+use Rattle.cnf_core.proofs.Sets.{same_lit-true, same_lit-from, contains-left, contains-right, contains-cases}
+use Rattle.cnf_core.proofs.Sets.{contains-without, opposite-opposite, same_variable}
 use Rattle.cnf_core.proofs.Chains.{after_steps-more}
-use Rattle.cdcl_core.specs.Trail.{AreApart, IsOpen, Forces}
-use Rattle.cdcl_core.specs.Learning.{has_variable, IsMarked, AreUnmarked, Leads, HasReason, IsLastMarked}
-use Rattle.cdcl_core.proofs.MarkLemmas.{has_variable-from, has_variable-at}
-use Rattle.cdcl_core.proofs.Places.{Stands, place_of, has-from, has-more, not_both}
+use Rattle.cdcl_core.specs.Trail.{HasDistinctVariables, IsUnassigned, Forces}
+use Rattle.cdcl_core.specs.Analysis.{contains_variable, IsMarked, AreUnmarked, Leads, HasReason, IsLastMarked}
+use Rattle.cdcl_core.proofs.MarkLemmas.{contains_variable-from, contains_variable-at}
+use Rattle.cdcl_core.proofs.Places.{Stands, place_of, contains-from, contains-more, not_both}
 
 -- ---- a step that resolves
 
-pub step-from : (cs : List Clause) (c : List Lit) (m : Lit) (r : ℕ) (d : Clause) → slice_get cs r ≡ Some d → has c m ≡ true → has d.lits (opposite m) ≡ true →
+pub step-from : (cs : List Clause) (c : List Lit) (m : Lit) (r : ℕ) (d : Clause) → slice_get cs r ≡ Some d →
+    contains c m ≡ true → contains d.lits (opposite m) ≡ true →
     step cs c (m, r) ≡ Some (without m c ++ without (opposite m) d.lits)
 step-from cs c m r d at h k =
     ap (option_and_then (λ (x : Clause). resolvent c m x.lits)) at
-    ∙ ap (λ b. cond b (Some (without m c ++ without (opposite m) d.lits)) None) (and-both (has c m) (has d.lits (opposite m)) h k)
+    ∙ ap (λ b. cond b (Some (without m c ++ without (opposite m) d.lits)) None)
+    (and-both (contains c m) (contains d.lits (opposite m)) h k)
 
 -- what is left of a clause has another literal of it
-without-has : (m : Lit) (c : List Lit) (l : Lit) → (m ≡ l → ⊥) → has c l ≡ true → has (without m c) l ≡ true
-without-has m c l h k = has-without m c l ∙ by (true-or-false (same_lit m l))
+without-contains : (m : Lit) (c : List Lit) (l : Lit) → (m ≡ l → ⊥) → contains c l ≡ true →
+    contains (without m c) l ≡ true
+without-contains m c l h k = contains-without m c l ∙ by (true-or-false (same_lit m l))
   where
-    by : (same_lit m l ≡ true) ⊎ (same_lit m l ≡ false) → (not (same_lit m l) && has c l) ≡ true
+    by : (same_lit m l ≡ true) ⊎ (same_lit m l ≡ false) → (not (same_lit m l) && contains c l) ≡ true
     by (inl e) = absurd (h (same_lit-true m l e))
-    by (inr e) = ap (λ b. not b && has c l) e ∙ k
+    by (inr e) = ap (λ b. not b && contains c l) e ∙ k
 
 -- and nothing else
-without-had : (m : Lit) (c : List Lit) (l : Lit) → has (without m c) l ≡ true → (m ≡ l → ⊥) × (has c l ≡ true)
+without-had : (m : Lit) (c : List Lit) (l : Lit) → contains (without m c) l ≡ true → (m ≡ l → ⊥) × (contains c l ≡ true)
 without-had m c l h = (
-  λ e. false≢true (sym (ap (λ b. not b && has c l) (same_lit-from m l e)) ∙ sym (has-without m c l) ∙ h),
-  and-right (not (same_lit m l)) (has c l) (sym (has-without m c l) ∙ h),
+  λ e. false≢true (sym (ap (λ b. not b && contains c l) (same_lit-from m l e)) ∙ sym (contains-without m c l) ∙ h),
+  and-right (not (same_lit m l)) (contains c l) (sym (contains-without m c l) ∙ h),
 )
 
 -- ---- back over places without a mark
 
-pub leads-skip : (cs : List Clause) (first : List Lit) (steps : List (Lit × ℕ)) (marks : List Bool) (lits : List Lit) (m n : ℕ) →
-    m ≤ n → AreUnmarked marks lits m n → Leads cs first steps marks (take n lits) → Leads cs first steps marks (take m lits)
+pub leads-skip : (cs : List Clause) (first : List Lit) (steps : List (Lit × ℕ)) (marks : List Bool) (lits : List Lit)
+    (m n : ℕ) →
+    m ≤ n → AreUnmarked marks lits m n → Leads cs first steps marks (take n lits) →
+    Leads cs first steps marks (take m lits)
 leads-skip cs first steps marks lits m n h u x = record {
   clause = x.clause;
   derived = x.derived;
-  same = λ l. x.same l ∙ same_test (has (take n lits) (opposite l) && assigned marks l.variable) (has (take m lits) (opposite l) && assigned marks l.variable) (less l) (more l);
+  same =
+      λ l. x.same l ∙ same_test (contains (take n lits) (opposite l) && assigned marks l.variable)
+      (contains (take m lits) (opposite l) && assigned marks l.variable) (less l) (more l);
 }
   where
-    less : (l : Lit) → (has (take n lits) (opposite l) && assigned marks l.variable) ≡ true → (has (take m lits) (opposite l) && assigned marks l.variable) ≡ true
+    less : (l : Lit) → (contains (take n lits) (opposite l) && assigned marks l.variable) ≡ true →
+        (contains (take m lits) (opposite l) && assigned marks l.variable) ≡ true
     less l e = by (cases_lt found.place m)
       where
         found : Stands lits n (opposite l)
-        found = place_of lits n (opposite l) (and-left (has (take n lits) (opposite l)) (assigned marks l.variable) e)
+        found =
+            place_of lits n (opposite l) (and-left (contains (take n lits) (opposite l)) (assigned marks l.variable) e)
 
         marked : assigned marks l.variable ≡ true
-        marked = and-right (has (take n lits) (opposite l)) (assigned marks l.variable) e
+        marked = and-right (contains (take n lits) (opposite l)) (assigned marks l.variable) e
 
-        by : (found.place < m) ⊎ (m ≤ found.place) → (has (take m lits) (opposite l) && assigned marks l.variable) ≡ true
-        by (inl b) = and-both (has (take m lits) (opposite l)) (assigned marks l.variable) (has-from lits m (opposite l) found.place b found.at) marked
+        by : (found.place < m) ⊎ (m ≤ found.place) →
+            (contains (take m lits) (opposite l) && assigned marks l.variable) ≡ true
+        by (inl b) =
+            and-both (contains (take m lits) (opposite l)) (assigned marks l.variable)
+            (contains-from lits m (opposite l) found.place b found.at) marked
         by (inr b) = absurd (false≢true (sym (u found.place (opposite l) b found.before found.at) ∙ marked))
 
-    more : (l : Lit) → (has (take m lits) (opposite l) && assigned marks l.variable) ≡ true → (has (take n lits) (opposite l) && assigned marks l.variable) ≡ true
-    more l e = and-both (has (take n lits) (opposite l)) (assigned marks l.variable)
-        (has-more lits m n (opposite l) h (and-left (has (take m lits) (opposite l)) (assigned marks l.variable) e))
-        (and-right (has (take m lits) (opposite l)) (assigned marks l.variable) e)
+    more : (l : Lit) → (contains (take m lits) (opposite l) && assigned marks l.variable) ≡ true →
+        (contains (take n lits) (opposite l) && assigned marks l.variable) ≡ true
+    more l e = and-both (contains (take n lits) (opposite l)) (assigned marks l.variable)
+        (contains-more lits m n (opposite l) h
+        (and-left (contains (take m lits) (opposite l)) (assigned marks l.variable) e))
+        (and-right (contains (take m lits) (opposite l)) (assigned marks l.variable) e)
 
 -- ---- one step back
 
-pub leads-step : (cs : List Clause) (first : List Lit) (steps : List (Lit × ℕ)) (old new : List Bool) (lits : List Lit) (p r : ℕ) (x : Lit) (d : Clause) →
-    AreApart lits → slice_get lits p ≡ Some x → slice_get cs r ≡ Some d → Forces (take p lits) d.lits x → assigned old x.variable ≡ true → IsMarked old d.lits new →
+pub leads-step : (cs : List Clause) (first : List Lit) (steps : List (Lit × ℕ)) (old new : List Bool) (lits : List Lit)
+    (p r : ℕ) (x : Lit) (d : Clause) →
+    HasDistinctVariables lits → slice_get lits p ≡ Some x → slice_get cs r ≡ Some d → Forces (take p lits) d.lits x →
+    assigned old x.variable ≡ true → IsMarked old d.lits new →
     Leads cs first steps old (take (p + 1) lits) → Leads cs first (steps ++ (opposite x, r) ∷ []) new (take p lits)
 leads-step cs first steps old new lits p r x d consistent at there forces marked m before = record {
   clause = rest;
   derived = after_steps-more cs steps (opposite x, r) first c rest before.derived
-      (step-from cs c (opposite x) r d there pivot (subst (λ y. has d.lits y ≡ true) (sym (opposite-opposite x)) forces.stands));
-  same = λ l. same_test (has rest l) (has (take p lits) (opposite l) && assigned new l.variable) (forth l) (back l);
+      (step-from cs c (opposite x) r d there pivot
+      (subst (λ y. contains d.lits y ≡ true) (sym (opposite-opposite x)) forces.stands));
+  same = λ l. same_test (contains rest l) (contains (take p lits) (opposite l) && assigned new l.variable) (forth l)
+      (back l);
 }
   where
     c : List Lit
@@ -82,103 +104,143 @@ leads-step cs first steps old new lits p r x d consistent at there forces marked
     rest : List Lit
     rest = without (opposite x) c ++ without (opposite (opposite x)) d.lits
 
-    open_before : IsOpen (take p lits) x
-    open_before = consistent p x at
+    unassigned_before : IsUnassigned (take p lits) x
+    unassigned_before = consistent p x at
 
-    pivot : has c (opposite x) ≡ true
-    pivot = before.same (opposite x) ∙ and-both (has (take (p + 1) lits) (opposite (opposite x))) (assigned old x.variable)
-        (ap (has (take (p + 1) lits)) (opposite-opposite x) ∙ has-from lits (p + 1) x p (omega arith) at) marked
+    pivot : contains c (opposite x) ≡ true
+    pivot =
+        before.same (opposite x)
+        ∙ and-both (contains (take (p + 1) lits) (opposite (opposite x))) (assigned old x.variable)
+        (ap (contains (take (p + 1) lits)) (opposite-opposite x) ∙ contains-from lits (p + 1) x p (omega arith) at)
+        marked
 
-    not_this : (l : Lit) → has (take p lits) (opposite l) ≡ true → opposite l ≡ x → ⊥
-    not_this l h e = false≢true (sym open_before.0 ∙ ap (has (take p lits)) (sym e) ∙ h)
+    not_this : (l : Lit) → contains (take p lits) (opposite l) ≡ true → opposite l ≡ x → ⊥
+    not_this l h e = false≢true (sym unassigned_before.0 ∙ ap (contains (take p lits)) (sym e) ∙ h)
 
-    forth : (l : Lit) → has rest l ≡ true → (has (take p lits) (opposite l) && assigned new l.variable) ≡ true
-    forth l h = by (has-cases (without (opposite x) c) (without (opposite (opposite x)) d.lits) l h)
+    forth : (l : Lit) → contains rest l ≡ true → (contains (take p lits) (opposite l) && assigned new l.variable) ≡ true
+    forth l h = by (contains-cases (without (opposite x) c) (without (opposite (opposite x)) d.lits) l h)
       where
-        both : has (take p lits) (opposite l) ≡ true → (assigned old l.variable || has_variable d.lits l.variable) ≡ true → (has (take p lits) (opposite l) && assigned new l.variable) ≡ true
-        both f g = and-both (has (take p lits) (opposite l)) (assigned new l.variable) f (m.1 l.variable ∙ g)
+        both : contains (take p lits) (opposite l) ≡ true →
+            (assigned old l.variable || contains_variable d.lits l.variable) ≡ true →
+            (contains (take p lits) (opposite l) && assigned new l.variable) ≡ true
+        both f g = and-both (contains (take p lits) (opposite l)) (assigned new l.variable) f (m.1 l.variable ∙ g)
 
-        kept : (opposite x ≡ l → ⊥) × (has c l ≡ true) → (has (take p lits) (opposite l) && assigned new l.variable) ≡ true
+        kept : (opposite x ≡ l → ⊥) × (contains c l ≡ true) →
+            (contains (take p lits) (opposite l) && assigned new l.variable) ≡ true
         kept k = place (cases_lt found.place p)
           where
-            was : (has (take (p + 1) lits) (opposite l) && assigned old l.variable) ≡ true
+            was : (contains (take (p + 1) lits) (opposite l) && assigned old l.variable) ≡ true
             was = sym (before.same l) ∙ k.1
 
             found : Stands lits (p + 1) (opposite l)
-            found = place_of lits (p + 1) (opposite l) (and-left (has (take (p + 1) lits) (opposite l)) (assigned old l.variable) was)
+            found =
+                place_of lits (p + 1) (opposite l)
+                (and-left (contains (take (p + 1) lits) (opposite l)) (assigned old l.variable) was)
 
-            place : (found.place < p) ⊎ (p ≤ found.place) → (has (take p lits) (opposite l) && assigned new l.variable) ≡ true
-            place (inl b) = both (has-from lits p (opposite l) found.place b found.at) (or-left (assigned old l.variable) (has_variable d.lits l.variable) (and-right (has (take (p + 1) lits) (opposite l)) (assigned old l.variable) was))
+            place : (found.place < p) ⊎ (p ≤ found.place) →
+                (contains (take p lits) (opposite l) && assigned new l.variable) ≡ true
+            place (inl b) =
+                both (contains-from lits p (opposite l) found.place b found.at)
+                (or-left (assigned old l.variable) (contains_variable d.lits l.variable)
+                (and-right (contains (take (p + 1) lits) (opposite l)) (assigned old l.variable) was))
             place (inr b) =
                 let f = found.before in
                 let here : found.place ≡ p = omega (arith, b, f) in
-                let same : x ≡ opposite l = same_Some x (opposite l) (sym at ∙ ap (slice_get lits) (sym here) ∙ found.at) in
+                let same : x ≡ opposite l =
+                same_Some x (opposite l) (sym at ∙ ap (slice_get lits) (sym here) ∙ found.at) in
                 absurd (k.0 (ap opposite same ∙ opposite-opposite l))
 
-        new_one : (opposite (opposite x) ≡ l → ⊥) × (has d.lits l ≡ true) → (has (take p lits) (opposite l) && assigned new l.variable) ≡ true
+        new_one : (opposite (opposite x) ≡ l → ⊥) × (contains d.lits l ≡ true) →
+            (contains (take p lits) (opposite l) && assigned new l.variable) ≡ true
         new_one k = other (forces.others l k.1)
           where
-            other : (l ≡ x) ⊎ (has (take p lits) (opposite l) ≡ true) → (has (take p lits) (opposite l) && assigned new l.variable) ≡ true
+            other : (l ≡ x) ⊎ (contains (take p lits) (opposite l) ≡ true) →
+                (contains (take p lits) (opposite l) && assigned new l.variable) ≡ true
             other (inl e) = absurd (k.0 (opposite-opposite x ∙ sym e))
-            other (inr e) = both e (or-right (assigned old l.variable) (has_variable d.lits l.variable) (has_variable-from d.lits l k.1))
+            other (inr e) =
+                both e
+                (or-right (assigned old l.variable) (contains_variable d.lits l.variable)
+                (contains_variable-from d.lits l k.1))
 
-        by : (has (without (opposite x) c) l ≡ true) ⊎ (has (without (opposite (opposite x)) d.lits) l ≡ true) → (has (take p lits) (opposite l) && assigned new l.variable) ≡ true
+        by : (contains (without (opposite x) c) l ≡ true) ⊎ (contains (without (opposite (opposite x)) d.lits) l ≡ true)
+            → (contains (take p lits) (opposite l) && assigned new l.variable) ≡ true
         by (inl k) = kept (without-had (opposite x) c l k)
         by (inr k) = new_one (without-had (opposite (opposite x)) d.lits l k)
 
-    back : (l : Lit) → (has (take p lits) (opposite l) && assigned new l.variable) ≡ true → has rest l ≡ true
-    back l h = by (or-cases (assigned old l.variable) (has_variable d.lits l.variable) (sym (m.1 l.variable) ∙ and-right (has (take p lits) (opposite l)) (assigned new l.variable) h))
+    back : (l : Lit) → (contains (take p lits) (opposite l) && assigned new l.variable) ≡ true → contains rest l ≡ true
+    back l h =
+        by (or-cases (assigned old l.variable) (contains_variable d.lits l.variable)
+        (sym (m.1 l.variable) ∙ and-right (contains (take p lits) (opposite l)) (assigned new l.variable) h))
       where
-        false_now : has (take p lits) (opposite l) ≡ true
-        false_now = and-left (has (take p lits) (opposite l)) (assigned new l.variable) h
+        false_now : contains (take p lits) (opposite l) ≡ true
+        false_now = and-left (contains (take p lits) (opposite l)) (assigned new l.variable) h
 
-        from_clause : (y : Lit) → has d.lits y ≡ true → (y ≡ l) ⊎ (y ≡ opposite l) → has rest l ≡ true
+        from_clause : (y : Lit) → contains d.lits y ≡ true → (y ≡ l) ⊎ (y ≡ opposite l) → contains rest l ≡ true
         from_clause y k (inl e) =
-            has-right (without (opposite x) c) (without (opposite (opposite x)) d.lits) l
-            (without-has (opposite (opposite x)) d.lits l
-            (λ s. false≢true (sym open_before.1 ∙ ap (λ z. has (take p lits) (opposite z)) (sym (opposite-opposite x) ∙ s) ∙ false_now))
-            (subst (λ z. has d.lits z ≡ true) e k))
+            contains-right (without (opposite x) c) (without (opposite (opposite x)) d.lits) l
+            (without-contains (opposite (opposite x)) d.lits l
+            (λ s.
+            false≢true
+            (sym unassigned_before.1 ∙ ap (λ z. contains (take p lits) (opposite z)) (sym (opposite-opposite x) ∙ s)
+            ∙ false_now))
+            (subst (λ z. contains d.lits z ≡ true) e k))
         from_clause y k (inr e) = absurd (clash (forces.others y k))
           where
-            clash : (y ≡ x) ⊎ (has (take p lits) (opposite y) ≡ true) → ⊥
+            clash : (y ≡ x) ⊎ (contains (take p lits) (opposite y) ≡ true) → ⊥
             clash (inl s) = not_this l false_now (sym e ∙ s)
-            clash (inr s) = not_both lits p l consistent (sym (ap (λ z. has (take p lits) (opposite z)) e ∙ ap (has (take p lits)) (opposite-opposite l)) ∙ s) false_now
+            clash (inr s) =
+                not_both lits p l consistent
+                (sym (ap (λ z. contains (take p lits) (opposite z)) e
+                ∙ ap (contains (take p lits)) (opposite-opposite l)) ∙ s) false_now
 
-        by : (assigned old l.variable ≡ true) ⊎ (has_variable d.lits l.variable ≡ true) → has rest l ≡ true
+        by : (assigned old l.variable ≡ true) ⊎ (contains_variable d.lits l.variable ≡ true) → contains rest l ≡ true
         by (inl k) =
-            has-left (without (opposite x) c) (without (opposite (opposite x)) d.lits) l
-            (without-has (opposite x) c l (λ s. not_this l false_now (ap opposite (sym s) ∙ opposite-opposite x))
-            (before.same l ∙ and-both (has (take (p + 1) lits) (opposite l)) (assigned old l.variable) (has-more lits p (p + 1) (opposite l) (omega arith) false_now) k))
+            contains-left (without (opposite x) c) (without (opposite (opposite x)) d.lits) l
+            (without-contains (opposite x) c l (λ s. not_this l false_now (ap opposite (sym s) ∙ opposite-opposite x))
+            (before.same l ∙ and-both (contains (take (p + 1) lits) (opposite l)) (assigned old l.variable)
+            (contains-more lits p (p + 1) (opposite l) (omega arith) false_now) k))
         by (inr k) =
-            let found = has_variable-at d.lits l.variable k in
+            let found = contains_variable-at d.lits l.variable k in
             from_clause found.0 found.1 (same_variable found.0 l found.2)
 
-pub reason_number : (cs : List Clause) (lits : List Lit) (reasons : List (Option ℕ)) (p r : ℕ) → (h : HasReason cs lits reasons p) → get_or reasons p None ≡ Some r → h.number ≡ r
-reason_number cs lits reasons p r h e = same_Some h.number r (sym (get_or_from_slice_get reasons p (Some h.number) None h.reason) ∙ e)
+pub reason_number : (cs : List Clause) (lits : List Lit) (reasons : List (Option ℕ)) (p r : ℕ) →
+    (h : HasReason cs lits reasons p) → get_or reasons p None ≡ Some r → h.number ≡ r
+reason_number cs lits reasons p r h e =
+    same_Some h.number r (sym (get_or_from_slice_get reasons p (Some h.number) None h.reason) ∙ e)
 
-pub reason_clause : (cs : List Clause) (lits : List Lit) (reasons : List (Option ℕ)) (p r : ℕ) (d : Clause) → (h : HasReason cs lits reasons p) → get_or reasons p None ≡ Some r → h.clause ≡ get_or cs r d
+pub reason_clause : (cs : List Clause) (lits : List Lit) (reasons : List (Option ℕ)) (p r : ℕ) (d : Clause) →
+    (h : HasReason cs lits reasons p) → get_or reasons p None ≡ Some r → h.clause ≡ get_or cs r d
 reason_clause cs lits reasons p r d h e =
-    sym (get_or_from_slice_get cs r h.clause d (ap (slice_get cs) (sym (reason_number cs lits reasons p r h e)) ∙ h.there))
+    sym (get_or_from_slice_get cs r h.clause d (ap (slice_get cs) (sym (reason_number cs lits reasons p r h e))
+    ∙ h.there))
 
-pub leads-resolve : (cs : List Clause) (lits : List Lit) (reasons : List (Option ℕ)) (p r : ℕ) (y : Lit) (d : Clause) (old new : List Bool) →
-    HasReason cs lits reasons p → get_or reasons p None ≡ Some r → AreApart lits →
+pub leads-resolve : (cs : List Clause) (lits : List Lit) (reasons : List (Option ℕ)) (p r : ℕ) (y : Lit) (d : Clause)
+    (old new : List Bool) →
+    HasReason cs lits reasons p → get_or reasons p None ≡ Some r → HasDistinctVariables lits →
     ((l : Lit) → slice_get lits p ≡ Some l → assigned old l.variable ≡ true) → IsMarked old (get_or cs r d).lits new →
     (first : List Lit) (steps : List (Lit × ℕ)) → Leads cs first steps old (take (p + 1) lits) →
     Leads cs first (steps ++ (opposite (get_or lits p y), r) ∷ []) new (take p lits)
 leads-resolve cs lits reasons p r y d old new h e consistent marked m first steps before =
-    subst (λ x. Leads cs first (steps ++ (opposite x, r) ∷ []) new (take p lits)) (sym (get_or_from_slice_get lits p h.lit y h.stands))
+    subst (λ x. Leads cs first (steps ++ (opposite x, r) ∷ []) new (take p lits))
+    (sym (get_or_from_slice_get lits p h.lit y h.stands))
     (leads-step cs first steps old new lits p r h.lit h.clause consistent h.stands
     (ap (slice_get cs) (sym (reason_number cs lits reasons p r h e)) ∙ h.there) h.forces (marked h.lit h.stands)
     (subst (λ (x : Clause). IsMarked old x.lits new) (sym (reason_clause cs lits reasons p r d h e)) m) before)
 
 -- ---- the last marked place
 
-pub found_at : (marks : List Bool) (lits : List Lit) (from to place : ℕ) (o : Option ℕ) → IfSome o (λ k. IsLastMarked marks lits from to k) → o ≡ Some place → IsLastMarked marks lits from to place
+pub found_at : (marks : List Bool) (lits : List Lit) (from to place : ℕ) (o : Option ℕ) →
+    IfSome o (λ k. IsLastMarked marks lits from to k) → o ≡ Some place → IsLastMarked marks lits from to place
 found_at marks lits from to place o h e = subst (λ x. IfSome x (λ k. IsLastMarked marks lits from to k)) e h
 
-pub found-marked : (marks : List Bool) (lits : List Lit) (from to place : ℕ) → IsLastMarked marks lits from to place → (l : Lit) → slice_get lits place ≡ Some l → assigned marks l.variable ≡ true
-found-marked marks lits from to place h l e = ap (λ (x : Lit). assigned marks x.variable) (same_Some l h.lit (sym e ∙ h.stands)) ∙ h.marked
+pub found-marked : (marks : List Bool) (lits : List Lit) (from to place : ℕ) → IsLastMarked marks lits from to place →
+    (l : Lit) → slice_get lits place ≡ Some l → assigned marks l.variable ≡ true
+found-marked marks lits from to place h l e =
+    ap (λ (x : Lit). assigned marks x.variable) (same_Some l h.lit (sym e ∙ h.stands)) ∙ h.marked
 
-pub leads-found : (cs : List Clause) (first : List Lit) (steps : List (Lit × ℕ)) (marks : List Bool) (lits : List Lit) (from to place : ℕ) →
-    IsLastMarked marks lits from to place → Leads cs first steps marks (take to lits) → Leads cs first steps marks (take (place + 1) lits)
-leads-found cs first steps marks lits from to place h x = let b = h.before in leads-skip cs first steps marks lits (place + 1) to (omega (arith, b)) h.last x
+pub leads-found : (cs : List Clause) (first : List Lit) (steps : List (Lit × ℕ)) (marks : List Bool) (lits : List Lit)
+    (from to place : ℕ) →
+    IsLastMarked marks lits from to place → Leads cs first steps marks (take to lits) →
+    Leads cs first steps marks (take (place + 1) lits)
+leads-found cs first steps marks lits from to place h x = let b =
+    h.before in leads-skip cs first steps marks lits (place + 1) to (omega (arith, b)) h.last x

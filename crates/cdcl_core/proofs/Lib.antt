@@ -1,10 +1,10 @@
-pub mod Kept
-pub mod Looks
+pub mod TrailState
+pub mod StatusLemmas
 pub mod LeadsLemmas
-pub mod LearnLemmas
+pub mod AnalysisLemmas
 pub mod MarkLemmas
-pub mod Picks
+pub mod DecisionLemmas
 pub mod Places
-pub mod Sweeps
+pub mod PropagationLemmas
 pub mod TrailLemmas
 pub mod SearchLemmas

@@ -1,40 +1,53 @@
--- The search: from a trail to what its analysis asks for, and from what it teaches to the next trail and a longer log.
-use Rattle.std.proofs.Common.{◌≡◌, ◌≢◌, ℕ, zero, suc, ◌-◌, ◌<◌, ◌≤◌, ◌||◌, Bool, true, false, not, cond, List, [], ◌∷◌, ◌++◌, refl, subst, sym, ap, ◌∙◌, arith, ◌⊎◌, inl, inr, take, take-take, length, length-append, get_or, slice_get, Option, Some, None, All, Contains, Result, Ok, Err, OnOk, Vec, Global}
+-- The search: from a trail to what conflict analysis asks for, and from the learnt clause to the next trail and a
+-- longer log.
+use Rattle.std.proofs.Common.{◌≡◌, ◌≢◌, ℕ, zero, suc, ◌-◌, ◌<◌, ◌≤◌, ◌||◌, Bool, true, false, not, cond, List, [], ◌∷◌}
+use Rattle.std.proofs.Common.{◌++◌, refl, subst, sym, ap, ◌∙◌, arith, ◌⊎◌, inl, inr, take, take-take, length}
+use Rattle.std.proofs.Common.{length-append, get_or, slice_get, Option, Some, None, All, Contains, Result, Ok, Err}
+use Rattle.std.proofs.Common.{OnOk, Vec, Global}
 use Rattle.std.proofs.lemmas.Bool.{false≢true, cases_lt}
-use Rattle.std.proofs.lemmas.Option.{option_and_then_some, same_Some, none-some, slice_get_within, get_or_from_slice_get, slice_get-get_or}
+use Rattle.std.proofs.lemmas.Option.{option_and_then_some, same_Some, none-some, slice_get_within}
+use Rattle.std.proofs.lemmas.Option.{get_or_from_slice_get, slice_get-get_or}
 use Rattle.std.proofs.lemmas.List.Elements.{All-append}
 use Rattle.std.proofs.lemmas.List.Sums.{list_all-from_AllPass}
 use Rattle.std.proofs.lemmas.List.Folds.{list_all-append}
 use Rattle.cnf_core.specs.declared.clause.Lit.{Lit}
 use Rattle.cnf_core.specs.declared.clause.Clause.{Clause}
 use Rattle.cnf_core.specs.declared.log.Chain.{Chain}
-use Rattle.cnf_core.specs.Clause.{same_lit, has, lit_true, clause_true, is_model, assigned, AreSame, AllSame, IsOver, IsWithin}
-use Rattle.cnf_core.specs.Resolution.{derived, clause, with_chains, IsAccepted, HasNoEmptyClause, IsUnit, AreUnits}
-use Rattle.cnf_core.proofs.Sets.{true-or-false, and-left, and-right, and-both, or-cases, has-tail, or-left, or-right, same_lit-true, no_literal, has-head, AreSame-trans, AreSame-sym}
-use Rattle.cnf_core.proofs.Same.{derived-same, same-Some, IsUnit-same, AllSame-more, AllSame-get, AllSame-length, AllSame-itself}
-use Rattle.cnf_core.proofs.Chains.{with_chains-more, AreUnits-more}
+use Rattle.cnf_core.specs.Clause.{same_lit, contains, lit_true, clause_true, is_model, assigned, AreSame, AllSame}
+use Rattle.cnf_core.specs.Clause.{IsOver, IsSubset}
+use Rattle.cnf_core.specs.Resolution.{derived, clause, with_chains, IsAccepted, HasNoEmptyClause, IsNewClause}
+use Rattle.cnf_core.specs.Resolution.{AreNewClauses}
+use Rattle.cnf_core.proofs.Sets.{true-or-false, and-left, and-right, and-both, or-cases, contains-tail, or-left}
+use Rattle.cnf_core.proofs.Sets.{or-right, same_lit-true, no_literal, contains-head, AreSame-trans, AreSame-sym}
+use Rattle.cnf_core.proofs.Same.{derived-same, same-Some, IsNewClause-same, AllSame-more, AllSame-get, AllSame-length}
+use Rattle.cnf_core.proofs.Same.{AllSame-itself}
+use Rattle.cnf_core.proofs.Chains.{with_chains-more, AreNewClauses-more}
 use Rattle.cnf_core.proofs.Over.{over-at}
 use Rattle.cdcl_core.specs.declared.search.Search.{Search}
-use Rattle.cdcl_core.specs.Trail.{Trail, IsTrail, Forces, IsSettled, AreSettled, AreReasons, AreSettledBefore, AreAllAssigned, IsCancelled}
-use Rattle.cdcl_core.specs.Learning.{HasReason, HaveReasons, IsAsserting}
-use Rattle.cdcl_core.specs.Sweep.{AreHints}
+use Rattle.cdcl_core.specs.Trail.{Trail, IsTrail, Forces, IsPropagated, ArePropagated, AreReasons, ArePropagatedBefore}
+use Rattle.cdcl_core.specs.Trail.{AreAllAssigned, IsCancelled}
+use Rattle.cdcl_core.specs.Analysis.{HasReason, HaveReasons, IsAsserting}
+use Rattle.cdcl_core.specs.Propagation.{AreBlockers}
 use Rattle.cdcl_core.specs.Search.{IsReady, IsLogOf}
 use Rattle.cdcl_core.proofs.Places.{opposite_not_true}
-use Rattle.cdcl_core.proofs.TrailLemmas.{AreSettledBefore-extends, AreReasons-forced, AreReasons-more, AreReasons-cancelled, AreSettledBefore-cancelled, forced}
+use Rattle.cdcl_core.proofs.TrailLemmas.{ArePropagatedBefore-extends, AreReasons-forced, AreReasons-more}
+use Rattle.cdcl_core.proofs.TrailLemmas.{AreReasons-cancelled, ArePropagatedBefore-cancelled, forced}
 
 -- ---- places of a list
 
 get_or_default : {X : Type 0} → (xs : List X) (k : ℕ) (d e : X) → k < length xs → get_or xs k d ≡ get_or xs k e
-get_or_default xs k d e h = same_Some (get_or xs k d) (get_or xs k e) (sym (slice_get-get_or xs k d h) ∙ slice_get-get_or xs k e h)
+get_or_default xs k d e h =
+    same_Some (get_or xs k d) (get_or xs k e) (sym (slice_get-get_or xs k d h) ∙ slice_get-get_or xs k e h)
 
-contains-at : (xs : List ℕ) (k d : ℕ) → k < length xs → Contains xs (get_or xs k d)
-contains-at xs k d h = (k, h, get_or_default xs k (get_or xs k d) d h)
+Contains-at : (xs : List ℕ) (k d : ℕ) → k < length xs → Contains xs (get_or xs k d)
+Contains-at xs k d h = (k, h, get_or_default xs k (get_or xs k d) d h)
 
 -- ---- what is asked of a trail
 
 -- each literal from the one after the last decision on has a reason
-pub have_reasons : (cs : List Clause) (t : Trail) (from : ℕ) → IsTrail t → AreReasons cs t → ((s : ℕ) → Contains t.starts s → s < from) → HaveReasons cs t.lits t.reasons from (length t.lits)
-have_reasons cs t from it reasons starts k later within = by (get_or t.reasons k None) refl
+pub have_reasons : (cs : List Clause) (t : Trail) (from : ℕ) → IsTrail t → AreReasons cs t →
+    ((s : ℕ) → Contains t.level_starts s → s < from) → HaveReasons cs t.lits t.reasons from (length t.lits)
+have_reasons cs t from it reasons level_starts k later within = by (get_or t.reasons k None) refl
   where
     at : slice_get t.lits k ≡ Some (get_or t.lits k (record { variable = 0; positive = false }))
     at = slice_get-get_or t.lits k (record { variable = 0; positive = false }) within
@@ -44,10 +57,12 @@ have_reasons cs t from it reasons starts k later within = by (get_or t.reasons k
 
     by : (r : Option ℕ) → get_or t.reasons k None ≡ r → HasReason cs t.lits t.reasons k
     by None e =
-        let early = starts k (it.decided k (there ∙ ap (λ x. Some x) e)) in
+        let early = level_starts k (it.decided k (there ∙ ap (λ x. Some x) e)) in
         absurd (omega (arith, early, later))
     by (Some number) e =
-        let why = reasons k number (get_or t.lits k (record { variable = 0; positive = false })) at (there ∙ ap (λ x. Some x) e) in
+        let why =
+        reasons k number (get_or t.lits k (record { variable = 0; positive = false })) at
+        (there ∙ ap (λ x. Some x) e) in
         record {
           lit = get_or t.lits k (record { variable = 0; positive = false });
           stands = at;
@@ -59,45 +74,56 @@ have_reasons cs t from it reasons starts k later within = by (get_or t.reasons k
         }
 
 -- no decision is later than the last
-pub greatest_start : (t : Trail) (start s : ℕ) → IsTrail t → slice_get t.starts (length t.starts - 1) ≡ Some start → Contains t.starts s → s ≤ start
-greatest_start t start s it last here = by (cases_lt here.0 (length t.starts - 1))
+pub greatest_level_start : (t : Trail) (level_start s : ℕ) → IsTrail t →
+    slice_get t.level_starts (length t.level_starts - 1) ≡ Some level_start → Contains t.level_starts s →
+    s ≤ level_start
+greatest_level_start t level_start s it last here = by (cases_lt here.0 (length t.level_starts - 1))
   where
-    at : slice_get t.starts here.0 ≡ Some s
-    at = slice_get-get_or t.starts here.0 s here.1 ∙ ap (λ x. Some x) here.2
+    at : slice_get t.level_starts here.0 ≡ Some s
+    at = slice_get-get_or t.level_starts here.0 s here.1 ∙ ap (λ x. Some x) here.2
 
-    by : (here.0 < length t.starts - 1) ⊎ (length t.starts - 1 ≤ here.0) → s ≤ start
-    by (inl b) = let r = it.rising here.0 (length t.starts - 1) s start b at last in omega (arith, r)
+    by : (here.0 < length t.level_starts - 1) ⊎ (length t.level_starts - 1 ≤ here.0) → s ≤ level_start
+    by (inl b) = let r = it.rising here.0 (length t.level_starts - 1) s level_start b at last in omega (arith, r)
     by (inr b) =
         let w = here.1 in
-        let same : here.0 ≡ length t.starts - 1 = omega (arith, b, w) in
-        let e : s ≡ start = same_Some s start (sym at ∙ ap (slice_get t.starts) same ∙ last) in
+        let same : here.0 ≡ length t.level_starts - 1 = omega (arith, b, w) in
+        let e : s ≡ level_start = same_Some s level_start (sym at ∙ ap (slice_get t.level_starts) same ∙ last) in
         omega (arith, e)
 
-pub no_start : (t : Trail) (s : ℕ) → slice_get t.starts (length t.starts - 1) ≡ None → Contains t.starts s → ⊥
-no_start t s none here =
+pub no_level_start : (t : Trail) (s : ℕ) → slice_get t.level_starts (length t.level_starts - 1) ≡ None →
+    Contains t.level_starts s → ⊥
+no_level_start t s none here =
     let w = here.1 in
-    none-some (get_or t.starts (length t.starts - 1) 0) (sym none ∙ slice_get-get_or t.starts (length t.starts - 1) 0 (omega (arith, w)))
+    none-some (get_or t.level_starts (length t.level_starts - 1) 0)
+    (sym none ∙ slice_get-get_or t.level_starts (length t.level_starts - 1) 0 (omega (arith, w)))
 
-pub start_within : (t : Trail) (start : ℕ) → IsTrail t → slice_get t.starts (length t.starts - 1) ≡ Some start → start < length t.lits
-start_within t start it last =
-    subst (λ s. s < length t.lits) (get_or_from_slice_get t.starts (length t.starts - 1) start 0 last)
-    (it.within (length t.starts - 1) 0 (slice_get_within t.starts (length t.starts - 1) start last))
+pub level_start_within : (t : Trail) (level_start : ℕ) → IsTrail t →
+    slice_get t.level_starts (length t.level_starts - 1) ≡ Some level_start → level_start < length t.lits
+level_start_within t level_start it last =
+    subst (λ s. s < length t.lits) (get_or_from_slice_get t.level_starts (length t.level_starts - 1) level_start 0 last)
+    (it.within (length t.level_starts - 1) 0
+    (slice_get_within t.level_starts (length t.level_starts - 1) level_start last))
 
-pub settled_at_start : (cs : List Clause) (t : Trail) (start : ℕ) → AreSettledBefore cs t → slice_get t.starts (length t.starts - 1) ≡ Some start → AreSettled (take start t.lits) cs
-settled_at_start cs t start h last =
-    subst (λ s. AreSettled (take s t.lits) cs) (get_or_from_slice_get t.starts (length t.starts - 1) start 0 last)
-    (h (length t.starts - 1) 0 (slice_get_within t.starts (length t.starts - 1) start last))
+pub propagated_at_level_start : (cs : List Clause) (t : Trail) (level_start : ℕ) → ArePropagatedBefore cs t →
+    slice_get t.level_starts (length t.level_starts - 1) ≡ Some level_start → ArePropagated (take level_start t.lits) cs
+propagated_at_level_start cs t level_start h last =
+    subst (λ s. ArePropagated (take s t.lits) cs)
+    (get_or_from_slice_get t.level_starts (length t.level_starts - 1) level_start 0 last)
+    (h (length t.level_starts - 1) 0 (slice_get_within t.level_starts (length t.level_starts - 1) level_start last))
 
 -- a search whose trail has propagated and decided
-pub ready-found : (old : Search) (trail : Trail) (hints : Vec Lit Global) (cs : List Clause) → IsReady old → cs ≡ old.clauses.items → trail.variables ≡ old.trail.variables → AreHints cs hints.items →
-    AreReasons cs trail → AreSettledBefore cs trail → IsReady (record { clauses = old.clauses; hints = hints; trail = trail; scores = old.scores; log = old.log })
-ready-found old trail hints cs ready same variables hinted reasons before = record {
+pub ready-found : (old : Search) (trail : Trail) (blockers : Vec Lit Global) (cs : List Clause) → IsReady old →
+    cs ≡ old.clauses.items → trail.variables ≡ old.trail.variables → AreBlockers cs blockers.items →
+    AreReasons cs trail → ArePropagatedBefore cs trail →
+    IsReady
+    (record { clauses = old.clauses; blockers = blockers; trail = trail; scores = old.scores; log = old.log })
+ready-found old trail blockers cs ready same variables blocked reasons before = record {
   scored = ready.scored ∙ sym variables;
   over = subst (λ n. All (λ (x : Clause). IsOver n x.lits) old.clauses.items) (sym variables) ready.over;
-  hinted = subst (λ xs. AreHints xs hints.items) same hinted;
+  blockers = subst (λ xs. AreBlockers xs blockers.items) same blocked;
   filled = ready.filled;
   reasons = subst (λ xs. AreReasons xs trail) same reasons;
-  before = subst (λ xs. AreSettledBefore xs trail) same before;
+  before = subst (λ xs. ArePropagatedBefore xs trail) same before;
 }
 
 -- ---- back to where the learnt clause forces its literal
@@ -114,135 +140,184 @@ last_clause cs older c e =
     at_end [] = refl
     at_end (x ∷ xs) = at_end xs
 
--- the new clause was settled before each decision that stays
-learnt-before : (older : List Clause) (c : Clause) (old new : Trail) (l : Lit) (start keep : ℕ) → AreSettledBefore older old → IsCancelled old new keep → IsAsserting old.lits c.lits l start keep →
-    AreSettledBefore (older ++ c ∷ []) new
-learnt-before older c old new l start keep h cancelled asserting k d b =
-    All-append (λ (x : Clause). IsSettled (take (get_or new.starts k d) new.lits) x.lits) older (c ∷ []) (AreSettledBefore-cancelled older old new keep h cancelled k d b)
+-- the learnt clause was propagated before each decision that stays
+learnt-before : (older : List Clause) (c : Clause) (old new : Trail) (l : Lit) (level_start keep : ℕ) →
+    ArePropagatedBefore older old → IsCancelled old new keep → IsAsserting old.lits c.lits l level_start keep →
+    ArePropagatedBefore (older ++ c ∷ []) new
+learnt-before older c old new l level_start keep h cancelled asserting k d b =
+    All-append (λ (x : Clause). IsPropagated (take (get_or new.level_starts k d) new.lits) x.lits) older (c ∷ [])
+    (ArePropagatedBefore-cancelled older old new keep h cancelled k d b)
     (λ j e w. one j e w)
   where
-    early : get_or new.starts k d < keep
-    early = (cancelled.starts (get_or new.starts k d) (contains-at new.starts k d b)).1
+    early : get_or new.level_starts k d < keep
+    early = (cancelled.level_starts (get_or new.level_starts k d) (Contains-at new.level_starts k d b)).1
 
-    same : take (get_or new.starts k d) old.lits ≡ take (get_or new.starts k d) new.lits
-    same = let later = cancelled.later in sym (ap (take (get_or new.starts k d)) cancelled.lits ∙ take-take (get_or new.starts k d) cancelled.place old.lits (omega (arith, early, later)))
+    same : take (get_or new.level_starts k d) old.lits ≡ take (get_or new.level_starts k d) new.lits
+    same = let later = cancelled.later in
+        sym (ap (take (get_or new.level_starts k d)) cancelled.lits
+        ∙ take-take (get_or new.level_starts k d) cancelled.place old.lits (omega (arith, early, later)))
 
-    one : (j : ℕ) (e : Clause) → j < 1 → IsSettled (take (get_or new.starts k d) new.lits) (get_or (c ∷ []) j e).lits
-    one zero e w = subst (λ lits. IsSettled lits c.lits) same (asserting.settled (get_or new.starts k d) early)
+    one : (j : ℕ) (e : Clause) → j < 1 →
+        IsPropagated (take (get_or new.level_starts k d) new.lits) (get_or (c ∷ []) j e).lits
+    one zero e w =
+        subst (λ lits. IsPropagated lits c.lits) same (asserting.propagated (get_or new.level_starts k d) early)
     one (suc j) e w = absurd (omega (arith, w))
 
-pub gone_back-reasons : (cs older : List Clause) (c : Clause) (old new : Trail) (l : Lit) (start keep : ℕ) → cs ≡ older ++ c ∷ [] → IsTrail old → IsTrail new →
-    AreReasons older old → IsCancelled old new keep → IsAsserting old.lits c.lits l start keep → AreReasons cs (forced new l (length cs - 1))
-gone_back-reasons cs older c old new l start keep e it it_new reasons cancelled asserting =
+pub backjumped-reasons : (cs older : List Clause) (c : Clause) (old new : Trail) (l : Lit) (level_start keep : ℕ) →
+    cs ≡ older ++ c ∷ [] → IsTrail old → IsTrail new →
+    AreReasons older old → IsCancelled old new keep → IsAsserting old.lits c.lits l level_start keep →
+    AreReasons cs (forced new l (length cs - 1))
+backjumped-reasons cs older c old new l level_start keep e it it_new reasons cancelled asserting =
     AreReasons-forced cs new l (length cs - 1) c it_new
-    (subst (λ xs. AreReasons xs new) (sym e) (AreReasons-more older c new (AreReasons-cancelled older old new keep it reasons cancelled)))
+    (subst (λ xs. AreReasons xs new) (sym e)
+    (AreReasons-more older c new (AreReasons-cancelled older old new keep it reasons cancelled)))
     (last_clause cs older c e)
     (subst (λ lits. Forces lits c.lits l) (sym cancelled.lits) (asserting.forces cancelled.place cancelled.later))
 
-pub gone_back-before : (cs older : List Clause) (c : Clause) (old new : Trail) (l : Lit) (start keep : ℕ) → cs ≡ older ++ c ∷ [] → IsTrail new →
-    AreSettledBefore older old → IsCancelled old new keep → IsAsserting old.lits c.lits l start keep → AreSettledBefore cs (forced new l (length cs - 1))
-gone_back-before cs older c old new l start keep e it_new before cancelled asserting =
-    AreSettledBefore-extends cs new (forced new l (length cs - 1)) it_new
-    (subst (λ xs. AreSettledBefore xs new) (sym e) (learnt-before older c old new l start keep before cancelled asserting))
-    (record { variables = refl; starts = refl; more_lits = l ∷ []; lits = refl; more_reasons = Some (length cs - 1) ∷ []; reasons = refl })
+pub backjumped-before : (cs older : List Clause) (c : Clause) (old new : Trail) (l : Lit) (level_start keep : ℕ) →
+    cs ≡ older ++ c ∷ [] → IsTrail new →
+    ArePropagatedBefore older old → IsCancelled old new keep → IsAsserting old.lits c.lits l level_start keep →
+    ArePropagatedBefore cs (forced new l (length cs - 1))
+backjumped-before cs older c old new l level_start keep e it_new before cancelled asserting =
+    ArePropagatedBefore-extends cs new (forced new l (length cs - 1)) it_new
+    (subst (λ xs. ArePropagatedBefore xs new) (sym e)
+    (learnt-before older c old new l level_start keep before cancelled asserting))
+    (record {
+      variables = refl;
+      level_starts = refl;
+      more_lits = l ∷ [];
+      lits = refl;
+      more_reasons = Some (length cs - 1) ∷ [];
+      reasons = refl;
+    })
 
 -- ---- a longer log
 
 pub log-begins : (cs : List Clause) → IsLogOf cs [] cs
-log-begins cs = record { all = cs; resolve = refl; same = AllSame-itself cs; units = tt }
+log-begins cs = record { all = cs; resolve = refl; same = AllSame-itself cs; new_clauses = tt }
 
-pub log-more : (given : List Clause) (chains : List Chain) (clauses : List Clause) (chain : Chain) (lits : List Lit) (c : Clause) →
-    IsLogOf given chains clauses → derived clauses chain ≡ Some lits → AreSame lits c.lits → IsUnit clauses c.lits → IsLogOf given (chains ++ chain ∷ []) (clauses ++ c ∷ [])
-log-more given chains clauses chain lits c log derives same unit = record {
+pub log-more : (given : List Clause) (chains : List Chain) (clauses : List Clause) (chain : Chain) (lits : List Lit)
+    (c : Clause) →
+    IsLogOf given chains clauses → derived clauses chain ≡ Some lits → AreSame lits c.lits →
+    IsNewClause clauses c.lits → IsLogOf given (chains ++ chain ∷ []) (clauses ++ c ∷ [])
+log-more given chains clauses chain lits c log derives same new_clause = record {
   all = log.all ++ clause found.0 ∷ [];
   resolve = with_chains-more given chains chain log.all found.0 log.resolve found.1;
   same = AllSame-more log.all clauses (clause found.0) c log.same sets;
-  units = AreUnits-more chains given chain log.all found.0 log.units log.resolve found.1 (IsUnit-same log.all clauses found.0 c.lits log.same sets unit);
+  new_clauses =
+      AreNewClauses-more chains given chain log.all found.0 log.new_clauses log.resolve found.1
+      (IsNewClause-same log.all clauses found.0 c.lits log.same sets new_clause);
 }
   where
     found : (d : List Lit) × (derived log.all chain ≡ Some d) × AreSame d lits
-    found = same-Some (derived log.all chain) (derived clauses chain) lits (derived-same log.all clauses chain log.same) derives
+    found = same-Some (derived log.all chain) (derived clauses chain) lits (derived-same log.all clauses chain log.same)
+        derives
 
     sets : AreSame found.0 c.lits
     sets = AreSame-trans found.0 lits c.lits found.2 same
 
 -- a clause with a literal is not empty, and its set is not that of the empty clause
-not_within_empty : (c : List Lit) → c ≢ [] → IsWithin c [] → ⊥
-not_within_empty [] h w = h refl
-not_within_empty (x ∷ xs) h w = false≢true (w x (has-head x xs))
+not_subset_of_empty : (c : List Lit) → c ≢ [] → IsSubset c [] → ⊥
+not_subset_of_empty [] h w = h refl
+not_subset_of_empty (x ∷ xs) h w = false≢true (w x (contains-head x xs))
 
-pub nothing_within_empty : (cs : List Clause) → All (λ (c : Clause). c.lits ≢ []) cs → IsUnit cs []
-nothing_within_empty cs h = record {
-  proper = λ l e. refl;
-  new = λ k d b w. not_within_empty (get_or cs k d).lits (h k d b) w;
+pub nothing_subset_of_empty : (cs : List Clause) → All (λ (c : Clause). c.lits ≢ []) cs → IsNewClause cs []
+nothing_subset_of_empty cs h = record {
+  not_tautology = λ l e. refl;
+  not_subsumed = λ k d b w. not_subset_of_empty (get_or cs k d).lits (h k d b) w;
 }
 
-pub log-closed : (given : List Clause) (chains : List Chain) (clauses : List Clause) (chain : Chain) → All (λ (c : Clause). c.lits ≢ []) clauses →
-    IsLogOf given chains clauses → derived clauses chain ≡ Some [] → IsAccepted given (chains ++ chain ∷ []) × AreUnits given (chains ++ chain ∷ [])
+pub log-closed : (given : List Clause) (chains : List Chain) (clauses : List Clause) (chain : Chain) →
+    All (λ (c : Clause). c.lits ≢ []) clauses →
+    IsLogOf given chains clauses → derived clauses chain ≡ Some [] →
+    IsAccepted given (chains ++ chain ∷ []) × AreNewClauses given (chains ++ chain ∷ [])
 log-closed given chains clauses chain filled log derives = (
   (longer.all, longer.resolve, at_end longer.all (AllSame-empty longer.all clauses longer.same)),
-  longer.units,
+  longer.new_clauses,
 )
   where
     longer : IsLogOf given (chains ++ chain ∷ []) (clauses ++ clause [] ∷ [])
-    longer = log-more given chains clauses chain [] (clause []) log derives (λ l. refl) (nothing_within_empty clauses filled)
+    longer =
+        log-more given chains clauses chain [] (clause []) log derives (λ l. refl)
+        (nothing_subset_of_empty clauses filled)
 
     at_end : (all : List Clause) → slice_get all (length clauses) ≡ Some (clause []) → Contains all (clause [])
-    at_end all e = (length clauses, slice_get_within all (length clauses) (clause []) e, get_or_from_slice_get all (length clauses) (clause []) (clause []) e)
+    at_end all e = (
+      length clauses,
+      slice_get_within all (length clauses) (clause []) e,
+      get_or_from_slice_get all (length clauses) (clause []) (clause []) e,
+    )
 
-    AllSame-empty : (all cs : List Clause) → AllSame all (cs ++ clause [] ∷ []) → slice_get all (length cs) ≡ Some (clause [])
+    AllSame-empty : (all cs : List Clause) → AllSame all (cs ++ clause [] ∷ []) →
+        slice_get all (length cs) ≡ Some (clause [])
     AllSame-empty [] [] s = absurd s
     AllSame-empty (a ∷ all) [] s = ap (λ ls. Some (clause ls)) (no_literal a.lits s.0)
     AllSame-empty [] (x ∷ cs) s = absurd s
     AllSame-empty (a ∷ all) (x ∷ cs) s = AllSame-empty all cs s.1
 
 -- no clause of a log is empty whose sets are not
-pub log-filled : (given : List Clause) (chains : List Chain) (clauses : List Clause) → All (λ (c : Clause). c.lits ≢ []) clauses → IsLogOf given chains clauses → HasNoEmptyClause given chains
+pub log-filled : (given : List Clause) (chains : List Chain) (clauses : List Clause) →
+    All (λ (c : Clause). c.lits ≢ []) clauses → IsLogOf given chains clauses → HasNoEmptyClause given chains
 log-filled given chains clauses filled log = (log.all, log.resolve, λ here. empty here)
   where
     empty : Contains log.all (clause []) → ⊥
     empty here =
         filled here.0 (clause []) (subst (λ n. here.0 < n) (AllSame-length log.all clauses log.same) here.1)
         (no_literal (get_or clauses here.0 (clause [])).lits
-        (λ l. AreSame-sym (get_or log.all here.0 (clause [])).lits (get_or clauses here.0 (clause [])).lits (AllSame-get log.all clauses here.0 (clause []) log.same) l
-        ∙ ap (λ (c : Clause). has c.lits l) here.2))
+        (λ l. AreSame-sym (get_or log.all here.0 (clause [])).lits (get_or clauses here.0 (clause [])).lits
+        (AllSame-get log.all clauses here.0 (clause []) log.same) l
+        ∙ ap (λ (c : Clause). contains c.lits l) here.2))
 
 -- ---- a model
 
-lit-true : (t : Trail) (values : List Bool) (l : Lit) → IsTrail t → ((x : ℕ) → x < t.variables → assigned values x ≡ has t.lits (record { variable = x; positive = true })) →
-    l.variable < t.variables → has t.lits l ≡ true → lit_true (assigned values) l ≡ true
+lit-true : (t : Trail) (values : List Bool) (l : Lit) → IsTrail t →
+    ((x : ℕ) → x < t.variables → assigned values x ≡ contains t.lits (record { variable = x; positive = true })) →
+    l.variable < t.variables → contains t.lits l ≡ true → lit_true (assigned values) l ≡ true
 lit-true t values l it gives there holds = by l.positive refl
   where
-    by : (p : Bool) → l.positive ≡ p → cond l.positive (assigned values l.variable) (not (assigned values l.variable)) ≡ true
+    by : (p : Bool) → l.positive ≡ p →
+        cond l.positive (assigned values l.variable) (not (assigned values l.variable)) ≡ true
     by true e =
         ap (λ p. cond p (assigned values l.variable) (not (assigned values l.variable))) e ∙ gives l.variable there
-        ∙ ap (λ p. has t.lits (record { variable = l.variable; positive = p })) (sym e) ∙ holds
+        ∙ ap (λ p. contains t.lits (record { variable = l.variable; positive = p })) (sym e) ∙ holds
     by false e =
         ap (λ p. cond p (assigned values l.variable) (not (assigned values l.variable))) e ∙ ap not (
         gives l.variable there
-        ∙ ap (λ p. has t.lits (record { variable = l.variable; positive = not p })) (sym e)
-        ∙ opposite_not_true t.lits l it.apart holds)
+        ∙ ap (λ p. contains t.lits (record { variable = l.variable; positive = not p })) (sym e)
+        ∙ opposite_not_true t.lits l it.distinct holds)
 
-some-true : (v : ℕ → Bool) (c : List Lit) (l : Lit) → has c l ≡ true → lit_true v l ≡ true → clause_true v c ≡ true
+some-true : (v : ℕ → Bool) (c : List Lit) (l : Lit) → contains c l ≡ true → lit_true v l ≡ true → clause_true v c ≡ true
 some-true v [] l h t = absurd (false≢true h)
 some-true v (x ∷ xs) l h t = by (true-or-false (same_lit l x)) (some-true v xs l)
   where
-    by : (same_lit l x ≡ true) ⊎ (same_lit l x ≡ false) → (has xs l ≡ true → lit_true v l ≡ true → clause_true v xs ≡ true) → (lit_true v x || clause_true v xs) ≡ true
+    by : (same_lit l x ≡ true) ⊎ (same_lit l x ≡ false) →
+        (contains xs l ≡ true → lit_true v l ≡ true → clause_true v xs ≡ true) →
+        (lit_true v x || clause_true v xs) ≡ true
     by (inl e) ih = or-left (lit_true v x) (clause_true v xs) (ap (lit_true v) (sym (same_lit-true l x e)) ∙ t)
-    by (inr e) ih = or-right (lit_true v x) (clause_true v xs) (ih (sym (ap (λ b. b || has xs l) e) ∙ h) t)
+    by (inr e) ih = or-right (lit_true v x) (clause_true v xs) (ih (sym (ap (λ b. b || contains xs l) e) ∙ h) t)
 
-pub settled-model : (cs : List Clause) (t : Trail) (values : List Bool) → IsTrail t → All (λ (c : Clause). IsOver t.variables c.lits) cs →
-    AreSettled t.lits cs → AreAllAssigned t → ((x : ℕ) → x < t.variables → assigned values x ≡ has t.lits (record { variable = x; positive = true })) →
+pub propagated-model : (cs : List Clause) (t : Trail) (values : List Bool) → IsTrail t →
+    All (λ (c : Clause). IsOver t.variables c.lits) cs →
+    ArePropagated t.lits cs → AreAllAssigned t →
+    ((x : ℕ) → x < t.variables → assigned values x ≡ contains t.lits (record { variable = x; positive = true })) →
     is_model (assigned values) cs ≡ true
-settled-model cs t values it over settled all gives = list_all-from_AllPass (λ (c : Clause). clause_true (assigned values) c.lits) cs (λ k d b. each (get_or cs k d).lits (over k d b) (settled k d b))
+propagated-model cs t values it over propagated all gives =
+    list_all-from_AllPass (λ (c : Clause). clause_true (assigned values) c.lits) cs
+    (λ k d b. each (get_or cs k d).lits (over k d b) (propagated k d b))
   where
-    each : (c : List Lit) → IsOver t.variables c → IsSettled t.lits c → clause_true (assigned values) c ≡ true
-    each c o (inl h) = some-true (assigned values) c h.lit h.stands (lit-true t values h.lit it gives (over-at t.variables c h.lit o h.stands) h.holds)
-    each c o (inr h) = by (true-or-false (has t.lits h.first))
+    each : (c : List Lit) → IsOver t.variables c → IsPropagated t.lits c → clause_true (assigned values) c ≡ true
+    each c o (inl h) =
+        some-true (assigned values) c h.lit h.stands
+        (lit-true t values h.lit it gives (over-at t.variables c h.lit o h.stands) h.holds)
+    each c o (inr h) = by (true-or-false (contains t.lits h.first))
       where
-        by : (has t.lits h.first ≡ true) ⊎ (has t.lits h.first ≡ false) → clause_true (assigned values) c ≡ true
-        by (inl e) = some-true (assigned values) c h.first h.first_stands (lit-true t values h.first it gives (over-at t.variables c h.first o h.first_stands) e)
-        by (inr e) = absurd (false≢true (sym h.first_not_false ∙ all h.first (over-at t.variables c h.first o h.first_stands) e))
+        by : (contains t.lits h.first ≡ true) ⊎ (contains t.lits h.first ≡ false) →
+            clause_true (assigned values) c ≡ true
+        by (inl e) =
+            some-true (assigned values) c h.first h.first_stands
+            (lit-true t values h.first it gives (over-at t.variables c h.first o h.first_stands) e)
+        by (inr e) =
+            absurd (false≢true (sym h.first_not_false ∙ all h.first (over-at t.variables c h.first o h.first_stands) e))
 
 -- three facts of a result that there is
 pub on_ok_three : {T E A B C D : Type 0} (r : Result T E) → (A → B → C → D) → OnOk r A → OnOk r B → OnOk r C → OnOk r D
@@ -250,18 +325,21 @@ on_ok_three (Ok x) f a b c = f a b c
 on_ok_three (Err e) f a b c = tt
 
 -- a clause with a literal is not empty
-pub filled_by : (c : List Lit) (l : Lit) → has c l ≡ true → c ≢ []
-filled_by c l h e = false≢true (ap (λ x. has x l) (sym e) ∙ h)
+pub filled_by : (c : List Lit) (l : Lit) → contains c l ≡ true → c ≢ []
+filled_by c l h e = false≢true (ap (λ x. contains x l) (sym e) ∙ h)
 
 -- ---- a model of the clauses that a search keeps is one of those that were given
 
-true_lit : (v : ℕ → Bool) (c : List Lit) → clause_true v c ≡ true → (l : Lit) × (has c l ≡ true) × (lit_true v l ≡ true)
+true_lit : (v : ℕ → Bool) (c : List Lit) → clause_true v c ≡ true →
+    (l : Lit) × (contains c l ≡ true) × (lit_true v l ≡ true)
 true_lit v [] h = absurd (false≢true h)
 true_lit v (x ∷ xs) h = by (or-cases (lit_true v x) (clause_true v xs) h) (true_lit v xs)
   where
-    by : (lit_true v x ≡ true) ⊎ (clause_true v xs ≡ true) → (clause_true v xs ≡ true → (l : Lit) × (has xs l ≡ true) × (lit_true v l ≡ true)) → (l : Lit) × (has (x ∷ xs) l ≡ true) × (lit_true v l ≡ true)
-    by (inl e) ih = (x, has-head x xs, e)
-    by (inr e) ih = let found = ih e in (found.0, has-tail x xs found.0 found.1, found.2)
+    by : (lit_true v x ≡ true) ⊎ (clause_true v xs ≡ true) →
+        (clause_true v xs ≡ true → (l : Lit) × (contains xs l ≡ true) × (lit_true v l ≡ true)) →
+        (l : Lit) × (contains (x ∷ xs) l ≡ true) × (lit_true v l ≡ true)
+    by (inl e) ih = (x, contains-head x xs, e)
+    by (inr e) ih = let found = ih e in (found.0, contains-tail x xs found.0 found.1, found.2)
 
 model-same : (v : ℕ → Bool) (all cs : List Clause) → AllSame all cs → is_model v cs ≡ true → is_model v all ≡ true
 model-same v [] [] s h = refl
@@ -273,12 +351,16 @@ model-same v (x ∷ xs) (y ∷ ys) s h =
     (some-true v x.lits found.0 (s.0 found.0 ∙ found.1) found.2)
     (model-same v xs ys s.1 (and-right (clause_true v y.lits) (is_model v ys) h))
 
-model-given : (v : ℕ → Bool) (chains : List Chain) (given all : List Clause) → with_chains given chains ≡ Some all → is_model v all ≡ true → is_model v given ≡ true
+model-given : (v : ℕ → Bool) (chains : List Chain) (given all : List Clause) → with_chains given chains ≡ Some all →
+    is_model v all ≡ true → is_model v given ≡ true
 model-given v [] given all h m = ap (is_model v) (same_Some given all h) ∙ m
 model-given v (chain ∷ chains) given all h m =
     option_and_then_some (λ lits. with_chains (given ++ clause lits ∷ []) chains) (derived given chain) all h
     (λ lits first rest. and-left (is_model v given) (is_model v (clause lits ∷ []))
-    (sym (list_all-append (λ (x : Clause). clause_true v x.lits) given (clause lits ∷ [])) ∙ model-given v chains (given ++ clause lits ∷ []) all rest m))
+    (sym (list_all-append (λ (x : Clause). clause_true v x.lits) given (clause lits ∷ []))
+    ∙ model-given v chains (given ++ clause lits ∷ []) all rest m))
 
-pub log-model : (v : ℕ → Bool) (given : List Clause) (chains : List Chain) (clauses : List Clause) → IsLogOf given chains clauses → is_model v clauses ≡ true → is_model v given ≡ true
-log-model v given chains clauses log m = model-given v chains given log.all log.resolve (model-same v log.all clauses log.same m)
+pub log-model : (v : ℕ → Bool) (given : List Clause) (chains : List Chain) (clauses : List Clause) →
+    IsLogOf given chains clauses → is_model v clauses ≡ true → is_model v given ≡ true
+log-model v given chains clauses log m =
+    model-given v chains given log.all log.resolve (model-same v log.all clauses log.same m)

@@ -1,8 +1,8 @@
 pub mod Trail
 pub mod Values
 pub mod Scores
-pub mod Look
-pub mod Sweep
-pub mod Learning
+pub mod ClauseStatus
+pub mod Propagation
+pub mod Analysis
 pub mod Search
 pub mod Answer

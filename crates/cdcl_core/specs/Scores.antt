@@ -1,7 +1,7 @@
 -- The scores of the variables: in how many conflicts each had a part, where late ones count more.
 use Rattle.std.specs.Prelude.{ℕ, ◌+◌, ◌-◌, ◌/◌, ◌^◌, ◌<◌, ◌≤◌, List, min, slice_index_or}
 use Rattle.cnf_core.specs.declared.clause.Lit.{Lit}
-use Rattle.cdcl_core.specs.Trail.{IsOpen}
+use Rattle.cdcl_core.specs.Trail.{IsUnassigned}
 
 -- a score for each variable, and what the next conflict adds
 pub record Scores : Type 0 where
@@ -11,7 +11,7 @@ pub record Scores : Type 0 where
 abbrev pub score : List ℕ → ℕ → ℕ
 score scores x = slice_index_or scores x 0
 
--- so much more, up to the greatest number of 64 bits
+-- a number raised by a step, up to the greatest number of 64 bits
 abbrev pub raised : ℕ → ℕ → ℕ
 raised step n = min (n + step) (2 ^ 64 - 1)
 
@@ -19,6 +19,7 @@ raised step n = min (n + step) (2 ^ 64 - 1)
 abbrev pub grown : ℕ → ℕ
 grown step = raised (step / 16) step
 
--- no literal without a value over so many variables has a higher score
+-- no unassigned literal over n variables has a higher score
 abbrev pub IsHighest : List ℕ → List Lit → ℕ → Lit → Type 0
-IsHighest scores lits variables l = (m : Lit) → m.variable < variables → IsOpen lits m → score scores m.variable ≤ score scores l.variable
+IsHighest scores lits n l = (m : Lit) → m.variable < n → IsUnassigned lits m →
+    score scores m.variable ≤ score scores l.variable

@@ -1,22 +1,22 @@
-//! What a conflict teaches: from the false clause back along the trail, each true literal whose
-//! variable is marked is resolved with its reason, until one literal of the last level is left.
-//!
-//! The clause so far is never written out before the end: its literals are the opposites of the true
-//! literals whose variables are marked.
+//! Conflict analysis: from the falsified clause back along the trail, each true literal whose variable is marked is
+//! resolved with its reason, until one literal of the last level is left. The clause so far is never written out before
+//! the end: its literals are the opposites of the true literals whose variables are marked.
 
-ghost use Rattle.std.specs.Prelude.{◌≡◌, ℕ, ◌+◌, ◌<◌, ◌≤◌, List, [], true, length, take, slice_get, Some, All, IfSome, IfNone, IfOk, OnOk};
-ghost use Rattle.cnf_core.specs.Clause.{opposite, same_lit, has, assigned, IsOver};
+ghost use Rattle.std.specs.Prelude.{◌≡◌, ℕ, ◌+◌, ◌<◌, ◌≤◌, List, [], true, length, take, slice_get, Some, All, IfSome};
+ghost use Rattle.std.specs.Prelude.{IfNone, IfOk, OnOk};
+ghost use Rattle.cnf_core.specs.Clause.{opposite, same_lit, contains, assigned, IsOver};
 ghost use Rattle.cnf_core.specs.Resolution.{after_steps, derived};
 ghost use Rattle.cnf_core.specs.declared.clause.Lit.{Lit};
 ghost use Rattle.cnf_core.specs.declared.clause.Clause.{Clause};
-ghost use Rattle.cdcl_core.specs.Trail.{AreApart, IsConflict, AreSettled};
-ghost use Rattle.cdcl_core.specs.Learning.{HaveReasons, IsMarked, AreUnmarked, IsLastMarked, Leads, IsCollected, IsKept, IsLearnt, has_variable};
+ghost use Rattle.cdcl_core.specs.Trail.{HasDistinctVariables, IsConflict, ArePropagated};
+ghost use Rattle.cdcl_core.specs.Analysis.{HaveReasons, IsMarked, AreUnmarked, IsLastMarked, Leads, IsCollected};
+ghost use Rattle.cdcl_core.specs.Analysis.{IsKeptLength, IsLearnt, contains_variable};
 
 use cnf_core::{Chain, Clause, Lit};
 use collections::Seq;
 use std::alloc::{AllocError, Global};
 
-/// What a conflict teaches.
+/// The clause that is learnt from a conflict.
 #[derive(Debug, Drop)]
 pub(crate) struct Learnt {
     /// The derivation of the clause.
@@ -25,9 +25,9 @@ pub(crate) struct Learnt {
     pub clause: Clause,
     /// The literal of the last level.
     pub lit: Lit,
-    /// The number of literals of the trail that make all others false.
+    /// The number of literals at the front of the trail that make all others false.
     pub keep: usize,
-    /// Which variables had a part in it.
+    /// Which variables had a part in the conflict.
     pub marks: Vec<bool>,
 }
 
@@ -58,7 +58,7 @@ fn last_marked(lits: &[Lit], marks: &[bool], from: usize, to: usize) -> Option<u
     None
 }
 
-/// Resolves on the literal in a place with its reason.
+/// Resolves the clause so far on the literal in a place with its reason.
 fn resolve(
     steps: &mut Vec<(Lit, usize)>,
     marks: &mut [bool],
@@ -68,12 +68,14 @@ fn resolve(
     place: usize,
 ) -> Result<(), AllocError>
     requires reason { HaveReasons clauses.now lits.now reasons.now place (place + 1) }
-    requires apart { AreApart lits.now }
+    requires distinct { HasDistinctVariables lits.now }
     requires over { All (λ c. IsOver (length marks.old) c.lits) clauses.now }
     requires marked { (l : Lit) → slice_get lits.now place ≡ Some l → assigned marks.old l.variable ≡ true }
     ensures length { length marks.new ≡ length marks.old }
     ensures kept { (x : ℕ) → assigned marks.old x ≡ true → assigned marks.new x ≡ true }
-    ensures step { OnOk result ((first : List Lit) → Leads clauses.now first steps.old.items marks.old (take (place + 1) lits.now) → Leads clauses.now first steps.new.items marks.new (take place lits.now)) }
+    ensures step { OnOk result ((first : List Lit) →
+        Leads clauses.now first steps.old.items marks.old (take (place + 1) lits.now) →
+        Leads clauses.now first steps.new.items marks.new (take place lits.now)) }
 {
     let reason = reasons[place].unwrap();
     steps.push((lits[place].opposite(), reason))?;
@@ -81,31 +83,35 @@ fn resolve(
     Ok(())
 }
 
-/// Goes back to the first unique implication point of the last level, whose place it answers: the one
-/// marked literal from `start` on that is left.
-fn first_point(
+/// The place of the first unique implication point of the last level, which begins at `level_start`: resolves until one
+/// marked literal of that level is left.
+fn first_uip(
     steps: &mut Vec<(Lit, usize)>,
     marks: &mut [bool],
     clauses: &[Clause],
     lits: &[Lit],
     reasons: &[Option<usize>],
-    start: usize,
+    level_start: usize,
 ) -> Result<usize, AllocError>
-    requires reasons { HaveReasons clauses.now lits.now reasons.now (start + 1) (length lits.now) }
-    requires apart { AreApart lits.now }
+    requires reasons { HaveReasons clauses.now lits.now reasons.now (level_start + 1) (length lits.now) }
+    requires distinct { HasDistinctVariables lits.now }
     requires over { IsOver (length marks.old) lits.now }
     requires clauses { All (λ c. IsOver (length marks.old) c.lits) clauses.now }
-    requires marked { (k : ℕ) × (l : Lit) × (start ≤ k) × (slice_get lits.now k ≡ Some l) × (assigned marks.old l.variable ≡ true) }
+    requires marked { (k : ℕ) × (l : Lit) × (level_start ≤ k) × (slice_get lits.now k ≡ Some l)
+        × (assigned marks.old l.variable ≡ true) }
     ensures length { length marks.new ≡ length marks.old }
-    ensures point { IfOk result (λ place. (start ≤ place) × (place < length lits.now)) }
-    ensures marked { IfOk result (λ place. (l : Lit) → slice_get lits.now place ≡ Some l → assigned marks.new l.variable ≡ true) }
-    ensures alone { IfOk result (λ place. AreUnmarked marks.new lits.now start place) }
-    ensures steps { IfOk result (λ place. (first : List Lit) → Leads clauses.now first steps.old.items marks.old lits.now → Leads clauses.now first steps.new.items marks.new (take (place + 1) lits.now)) }
+    ensures point { IfOk result (λ place. (level_start ≤ place) × (place < length lits.now)) }
+    ensures marked { IfOk result (λ place. (l : Lit) → slice_get lits.now place ≡ Some l →
+        assigned marks.new l.variable ≡ true) }
+    ensures alone { IfOk result (λ place. AreUnmarked marks.new lits.now level_start place) }
+    ensures steps { IfOk result (λ place. (first : List Lit) →
+        Leads clauses.now first steps.old.items marks.old lits.now →
+        Leads clauses.now first steps.new.items marks.new (take (place + 1) lits.now)) }
 {
-    let mut place = last_marked(lits, marks, start, lits.len()).unwrap();
-    while last_marked(lits, marks, start, place).is_some() {
+    let mut place = last_marked(lits, marks, level_start, lits.len()).unwrap();
+    while last_marked(lits, marks, level_start, place).is_some() {
         resolve(steps, marks, clauses, lits, reasons, place)?;
-        place = last_marked(lits, marks, start, place).unwrap();
+        place = last_marked(lits, marks, level_start, place).unwrap();
     }
     Ok(place)
 }
@@ -114,29 +120,30 @@ fn first_point(
 fn marks_of(alloc: Global, variables: usize, lits: &[Lit]) -> Result<Vec<bool>, AllocError>
     requires { IsOver variables lits.now }
     ensures length { IfOk result (λ marks. length marks.items ≡ variables) }
-    ensures marks { IfOk result (λ marks. (x : ℕ) → assigned marks.items x ≡ has_variable lits.now x) }
+    ensures marks { IfOk result (λ marks. (x : ℕ) → assigned marks.items x ≡ contains_variable lits.now x) }
 {
     let mut marks = vec![in alloc; false; variables]?;
     mark(&mut marks, lits);
     Ok(marks)
 }
 
-/// The opposite of the literal in a place, and those of the marked literals before `start`.
+/// The opposite of the literal in a place, and those of the marked literals before `level_start`.
 fn collect(
     alloc: Global,
     lits: &[Lit],
     marks: &[bool],
     place: usize,
-    start: usize,
+    level_start: usize,
 ) -> Result<Vec<Lit>, AllocError>
     requires over { IsOver (length marks.now) lits.now }
     requires place { place < length lits.now }
-    requires start { start ≤ length lits.now }
-    ensures { IfOk result (λ c. (l : Lit) → slice_get lits.now place ≡ Some l → IsCollected marks.now lits.now (opposite l) start c.items) }
+    requires level_start { level_start ≤ length lits.now }
+    ensures { IfOk result (λ c. (l : Lit) → slice_get lits.now place ≡ Some l →
+        IsCollected marks.now lits.now (opposite l) level_start c.items) }
 {
     let mut clause = Vec::new(alloc);
     clause.push(lits[place].opposite())?;
-    for earlier in 0..start {
+    for earlier in 0..level_start {
         if marks[lits[earlier].variable] {
             clause.push(lits[earlier].opposite())?;
         }
@@ -144,32 +151,33 @@ fn collect(
     Ok(clause)
 }
 
-/// What the conflict at the false clause of a number teaches, where `start` is the place of the last
-/// decision. Before it no clause said anything of what was to follow.
-pub(crate) fn learn(
+/// The clause that is learnt from the conflict at the falsified clause of a number, with its chain. The last level
+/// begins at `level_start`, before which every clause was propagated. The clause is new, and it is unit once the search
+/// has backjumped to `keep` literals.
+pub(crate) fn analyze(
     alloc: Global,
     variables: usize,
     clauses: &[Clause],
     lits: &[Lit],
     reasons: &[Option<usize>],
     conflict: usize,
-    start: usize,
+    level_start: usize,
 ) -> Result<Learnt, AllocError>
-    requires apart { AreApart lits.now }
+    requires distinct { HasDistinctVariables lits.now }
     requires over { IsOver variables lits.now }
     requires clauses { All (λ c. IsOver variables c.lits) clauses.now }
-    requires reasons { HaveReasons clauses.now lits.now reasons.now (start + 1) (length lits.now) }
-    requires start { start < length lits.now }
+    requires reasons { HaveReasons clauses.now lits.now reasons.now (level_start + 1) (length lits.now) }
+    requires level_start { level_start < length lits.now }
     requires conflict { IsConflict lits.now clauses.now conflict }
-    requires settled { AreSettled (take start lits.now) clauses.now }
-    ensures { IfOk result (IsLearnt clauses.now variables lits.now start) }
+    requires propagated { ArePropagated (take level_start lits.now) clauses.now }
+    ensures { IfOk result (IsLearnt clauses.now variables lits.now level_start) }
 {
     let mut marks = marks_of(alloc, variables, clauses[conflict].lits.as_slice())?;
     let mut steps = Vec::new(alloc);
-    let place = first_point(&mut steps, &mut marks, clauses, lits, reasons, start)?;
-    let keep = kept(lits, &marks, start);
+    let place = first_uip(&mut steps, &mut marks, clauses, lits, reasons, level_start)?;
+    let keep = kept_length(lits, &marks, level_start);
     let clause = Clause {
-        lits: Seq::from_vec(collect(alloc, lits, &marks, place, start)?),
+        lits: Seq::from_vec(collect(alloc, lits, &marks, place, level_start)?),
     };
     let chain = Chain {
         first: conflict,
@@ -185,19 +193,19 @@ pub(crate) fn learn(
     })
 }
 
-/// The number of literals up to the last marked one before `start`.
-fn kept(lits: &[Lit], marks: &[bool], start: usize) -> usize
+/// The number of literals up to the last marked one before `level_start`.
+fn kept_length(lits: &[Lit], marks: &[bool], level_start: usize) -> usize
     requires over { IsOver (length marks.now) lits.now }
-    requires start { start ≤ length lits.now }
-    ensures { IsKept marks.now lits.now start result }
+    requires level_start { level_start ≤ length lits.now }
+    ensures { IsKeptLength marks.now lits.now level_start result }
 {
-    match last_marked(lits, marks, 0, start) {
+    match last_marked(lits, marks, 0, level_start) {
         Some(place) => place + 1,
         None => 0,
     }
 }
 
-/// Resolves every marked literal away, where no decision stands.
+/// Resolves every marked literal away, at decision level 0.
 fn resolve_all(
     steps: &mut Vec<(Lit, usize)>,
     marks: &mut [bool],
@@ -206,10 +214,11 @@ fn resolve_all(
     reasons: &[Option<usize>],
 ) -> Result<(), AllocError>
     requires reasons { HaveReasons clauses.now lits.now reasons.now 0 (length lits.now) }
-    requires apart { AreApart lits.now }
+    requires distinct { HasDistinctVariables lits.now }
     requires over { IsOver (length marks.old) lits.now }
     requires clauses { All (λ c. IsOver (length marks.old) c.lits) clauses.now }
-    ensures { OnOk result ((first : List Lit) → Leads clauses.now first steps.old.items marks.old lits.now → after_steps clauses.now first steps.new.items ≡ Some []) }
+    ensures { OnOk result ((first : List Lit) → Leads clauses.now first steps.old.items marks.old lits.now →
+        after_steps clauses.now first steps.new.items ≡ Some []) }
 {
     let mut end = lits.len();
     while last_marked(lits, marks, 0, end).is_some() {
@@ -220,8 +229,7 @@ fn resolve_all(
     Ok(())
 }
 
-/// The chain of the empty clause, from the conflict at the false clause of a number, where no decision
-/// stands.
+/// The chain of the empty clause, from the conflict at the falsified clause of a number at decision level 0.
 pub(crate) fn refute(
     alloc: Global,
     variables: usize,
@@ -230,7 +238,7 @@ pub(crate) fn refute(
     reasons: &[Option<usize>],
     conflict: usize,
 ) -> Result<Chain, AllocError>
-    requires apart { AreApart lits.now }
+    requires distinct { HasDistinctVariables lits.now }
     requires over { IsOver variables lits.now }
     requires clauses { All (λ c. IsOver variables c.lits) clauses.now }
     requires reasons { HaveReasons clauses.now lits.now reasons.now 0 (length lits.now) }

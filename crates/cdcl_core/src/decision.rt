@@ -1,5 +1,8 @@
+//! Decisions: a variable without a value and with the highest score, with the sign that it had last. A score counts the
+//! conflicts in which its variable had a part, late ones more; there is one for each variable.
+
 ghost use Rattle.std.specs.Prelude.{◌≡◌, ℕ, ◌/◌, ◌^◌, ◌<◌, ◌≤◌, ◌⊎◌, Some, IfSome, IfNone, IfOk, length, set};
-ghost use Rattle.cdcl_core.specs.Trail.{IsOpen, AreAllAssigned};
+ghost use Rattle.cdcl_core.specs.Trail.{IsUnassigned, AreAllAssigned};
 ghost use Rattle.cdcl_core.specs.Scores.{score, raised, grown, IsHighest};
 
 use crate::trail::Trail;
@@ -13,7 +16,7 @@ const LARGEST: u64 = 1 << 40;
 /// The divisor of scores that are scaled down.
 const SCALE: u64 = 1 << 30;
 
-/// In how many conflicts each variable had a part, where late ones count more.
+/// A score for each variable.
 #[derive(Debug, Drop)]
 pub(crate) struct Scores {
     activity: Vec<u64>,
@@ -44,16 +47,21 @@ impl Scores {
     /// Raises the score of a variable by a step.
     pub fn bump(&mut self, variable: usize)
         requires { variable < length self.old.scores }
-        ensures { self.new ≡ record { scores = set self.old.scores variable (raised self.old.step (score self.old.scores variable)); step = self.old.step } }
+        ensures { self.new ≡ record {
+          scores = set self.old.scores variable (raised self.old.step (score self.old.scores variable));
+          step = self.old.step;
+        } }
     {
         self.activity[variable] = self.activity[variable].saturating_add(self.step);
     }
 
-    /// Lets the bumps to come count more than those so far. Once the step is large, it scales all down.
+    /// Makes later bumps count more than those so far. Once the step is large, all scores are scaled down.
     pub fn decay(&mut self)
         ensures length { length self.new.scores ≡ length self.old.scores }
-        ensures small { grown self.old.step ≤ 2 ^ 40 → self.new ≡ record { scores = self.old.scores; step = grown self.old.step } }
-        ensures large { 2 ^ 40 < grown self.old.step → (x : ℕ) → x < length self.old.scores → score self.new.scores x ≡ score self.old.scores x / 2 ^ 30 }
+        ensures small { grown self.old.step ≤ 2 ^ 40 →
+            self.new ≡ record { scores = self.old.scores; step = grown self.old.step } }
+        ensures large { 2 ^ 40 < grown self.old.step → (x : ℕ) → x < length self.old.scores →
+            score self.new.scores x ≡ score self.old.scores x / 2 ^ 30 }
         ensures step { 2 ^ 40 < grown self.old.step → self.new.step ≡ grown self.old.step / 2 ^ 30 }
     {
         self.step = self.step.saturating_add(self.step / 16);
@@ -63,12 +71,12 @@ impl Scores {
         }
     }
 
-    /// A literal without a value: of a variable with the highest score, with the sign that it had
-    /// last. None where each variable has a value.
+    /// A literal without a value, of a variable with the highest score and with the sign that it had last; none where
+    /// each variable has a value.
     pub fn pick(&self, trail: &Trail) -> Option<Lit>
         requires { length self.now.scores ≡ trail.now.variables }
         ensures there { IfSome result (λ l. l.variable < trail.now.variables) }
-        ensures open { IfSome result (λ l. IsOpen trail.now.lits l) }
+        ensures unassigned { IfSome result (λ l. IsUnassigned trail.now.lits l) }
         ensures highest { IfSome result (IsHighest self.now.scores trail.now.lits trail.now.variables) }
         ensures none { IfNone result (AreAllAssigned trail.now) }
     {

@@ -1,9 +1,16 @@
-//! A solver for clauses by conflict-driven clause learning: the plain one, whose propagation goes over
-//! all clauses.
+//! A solver for formulas in conjunctive normal form by conflict-driven clause learning, whose propagation goes over all
+//! clauses.
 //!
-//! It finds a model, or a log of resolution that refutes the clauses, or it says that the fuel is spent;
-//! each unit of fuel is one learnt clause that says something new ([`solve`]). The shape is that of
-//! N. Eén, N. Sörensson, An Extensible SAT-solver, SAT 2003.
+//! - `search`: the loop, and what is answered ([`solve`], [`Answer`])
+//! - `propagation`: unit propagation, and a blocker for each clause
+//! - `decision`: the scores of the variables, and which is decided next
+//! - `analysis`: conflict analysis up to the first unique implication point
+//! - `trail`: the true literals with their reasons and levels
+//!
+//! It finds a model, or a log of resolution that refutes the formula, or it says that the fuel is spent; each unit of
+//! fuel is one learnt clause. Sources: J. Marques-Silva, K. Sakallah, GRASP, 1999; M. Moskewicz, C. Madigan, Y. Zhao,
+//! L. Zhang, S. Malik, Chaff, 2001; N. Eén, N. Sörensson, An Extensible SAT-solver (MiniSat), 2003, whose names are
+//! used; the resolution traces of zChaff and TraceCheck for the log.
 #![tactic(auto)]
 
 mod analysis;

@@ -1,44 +1,48 @@
+//! Unit propagation by passes over all clauses. Each clause has a blocker, a literal that it contains and that is
+//! looked
+//! at first: the one that was true when the whole clause was last looked at.
+
 ghost use Rattle.std.specs.Prelude.{◌≡◌, true, None, All, IfOk, OnOk, IfSome, IfNone};
-ghost use Rattle.cnf_core.specs.Clause.{has, IsOver};
-ghost use Rattle.cdcl_core.specs.Trail.{AreSettled, AreReasons, Extends, IsConflict};
-ghost use Rattle.cdcl_core.specs.Look.{IsLook, look_of};
-ghost use Rattle.cdcl_core.specs.Sweep.{AreHints, TellsOf};
+ghost use Rattle.cnf_core.specs.Clause.{contains, IsOver};
+ghost use Rattle.cdcl_core.specs.Trail.{ArePropagated, AreReasons, ExtendsTrail, IsConflict};
+ghost use Rattle.cdcl_core.specs.ClauseStatus.{IsStatus, clause_status};
+ghost use Rattle.cdcl_core.specs.Propagation.{AreBlockers, IsProgress};
 
 use crate::trail::Trail;
 use cnf_core::{Clause, Lit};
 use std::alloc::AllocError;
 
-/// What the true literals say of a clause.
+/// The status of a clause under the true literals.
 #[derive(Clone, Copy, Debug)]
-pub(crate) enum Look {
+pub(crate) enum ClauseStatus {
     /// This literal is true.
-    True(Lit),
+    Satisfied(Lit),
     /// Two literals are not false.
-    Open,
+    Unresolved,
     /// All literals but this one are false, and it has no value.
-    Forced(Lit),
+    Unit(Lit),
     /// All literals are false.
-    False,
+    Falsified,
 }
 
-/// Looks at a clause.
-pub(crate) fn look_at(trail: &Trail, lits: &[Lit]) -> Look
+/// The status of a clause.
+pub(crate) fn status_of(trail: &Trail, lits: &[Lit]) -> ClauseStatus
     requires { IsOver trail.now.variables lits.now }
-    ensures exact { result ≡ look_of trail.now.lits lits.now None }
-    ensures look { IsLook trail.now.lits lits.now result }
+    ensures exact { result ≡ clause_status trail.now.lits lits.now None }
+    ensures status { IsStatus trail.now.lits lits.now result }
 {
     let mut only = None;
     for lit in lits {
         match trail.value(lit.variable) {
             Some(value) => {
                 if value == lit.positive {
-                    return Look::True(*lit);
+                    return ClauseStatus::Satisfied(*lit);
                 }
             }
             None => {
                 if let Some(first) = only {
                     if first != *lit {
-                        return Look::Open;
+                        return ClauseStatus::Unresolved;
                     }
                 }
                 only = Some(*lit);
@@ -46,84 +50,87 @@ pub(crate) fn look_at(trail: &Trail, lits: &[Lit]) -> Look
         }
     }
     match only {
-        Some(lit) => Look::Forced(lit),
-        None => Look::False,
+        Some(lit) => ClauseStatus::Unit(lit),
+        None => ClauseStatus::Falsified,
     }
 }
 
-/// Looks at a clause, and at one literal of it first.
-fn look_again(trail: &Trail, clause: &Clause, hint: Lit) -> Look
+/// The status of a clause, whose blocker is looked at first.
+fn status_by_blocker(trail: &Trail, clause: &Clause, blocker: Lit) -> ClauseStatus
     requires over { IsOver trail.now.variables clause.now.lits }
-    requires hint { has clause.now.lits hint ≡ true }
-    ensures { IsLook trail.now.lits clause.now.lits result }
+    requires blocker { contains clause.now.lits blocker ≡ true }
+    ensures { IsStatus trail.now.lits clause.now.lits result }
 {
-    if trail.is_true(hint) {
-        return Look::True(hint);
+    if trail.is_true(blocker) {
+        return ClauseStatus::Satisfied(blocker);
     }
-    look_at(trail, clause.lits.as_slice())
+    status_of(trail, clause.lits.as_slice())
 }
 
-/// What one turn over all clauses came to.
+/// What one pass over all clauses came to.
 #[derive(Clone, Copy, Debug)]
-enum Swept {
-    /// The clause of that number is false.
+enum Progress {
+    /// The clause of that number is falsified.
     Conflict(usize),
     /// Some literal was assigned.
-    Changed,
-    /// All clauses are settled, and nothing was assigned.
-    Quiet,
+    Assigned,
+    /// Nothing was assigned, and each clause is satisfied or unresolved.
+    Fixpoint,
 }
 
-/// Goes over the clauses once, and assigns what they force.
-fn sweep(trail: &mut Trail, clauses: &[Clause], hints: &mut Vec<Lit>) -> Result<Swept, AllocError>
+/// Makes one pass over the clauses, and assigns the literals of unit clauses.
+fn propagate_once(
+    trail: &mut Trail,
+    clauses: &[Clause],
+    blockers: &mut Vec<Lit>,
+) -> Result<Progress, AllocError>
     requires over { All (λ c. IsOver trail.old.variables c.lits) clauses.now }
     requires reasons { AreReasons clauses.now trail.old }
-    requires hints { AreHints clauses.now hints.old.items }
-    ensures extends { OnOk result (Extends trail.old trail.new) }
+    requires blockers { AreBlockers clauses.now blockers.old.items }
+    ensures extends { OnOk result (ExtendsTrail trail.old trail.new) }
     ensures reasons { OnOk result (AreReasons clauses.now trail.new) }
-    ensures hints { OnOk result (AreHints clauses.now hints.new.items) }
-    ensures tells { IfOk result (λ swept. TellsOf clauses.now trail.old trail.new swept) }
+    ensures blockers { OnOk result (AreBlockers clauses.now blockers.new.items) }
+    ensures tells { IfOk result (λ progress. IsProgress clauses.now trail.old trail.new progress) }
 {
     let mut changed = false;
     for number in 0..clauses.len() {
-        match look_again(trail, &clauses[number], hints[number]) {
-            Look::True(lit) => hints[number] = lit,
-            Look::Open => {}
-            Look::Forced(lit) => {
+        match status_by_blocker(trail, &clauses[number], blockers[number]) {
+            ClauseStatus::Satisfied(lit) => blockers[number] = lit,
+            ClauseStatus::Unresolved => {}
+            ClauseStatus::Unit(lit) => {
                 trail.assign(lit, number)?;
                 changed = true;
             }
-            Look::False => return Ok(Swept::Conflict(number)),
+            ClauseStatus::Falsified => return Ok(Progress::Conflict(number)),
         }
     }
     if changed {
-        Ok(Swept::Changed)
+        Ok(Progress::Assigned)
     } else {
-        Ok(Swept::Quiet)
+        Ok(Progress::Fixpoint)
     }
 }
 
-/// Assigns what the clauses force, until nothing changes or a clause is false, whose number it then
-/// answers. The hints are a literal of each clause, the one that was true when it was last looked at.
+/// The number of a clause that unit propagation falsifies; none where it comes to a fixpoint.
 pub(crate) fn propagate(
     trail: &mut Trail,
     clauses: &[Clause],
-    hints: &mut Vec<Lit>,
+    blockers: &mut Vec<Lit>,
 ) -> Result<Option<usize>, AllocError>
     requires over { All (λ c. IsOver trail.old.variables c.lits) clauses.now }
     requires reasons { AreReasons clauses.now trail.old }
-    requires hints { AreHints clauses.now hints.old.items }
-    ensures extends { OnOk result (Extends trail.old trail.new) }
+    requires blockers { AreBlockers clauses.now blockers.old.items }
+    ensures extends { OnOk result (ExtendsTrail trail.old trail.new) }
     ensures reasons { OnOk result (AreReasons clauses.now trail.new) }
-    ensures hints { OnOk result (AreHints clauses.now hints.new.items) }
-    ensures settled { IfOk result (λ conflict. IfNone conflict (AreSettled trail.new.lits clauses.now)) }
+    ensures blockers { OnOk result (AreBlockers clauses.now blockers.new.items) }
+    ensures propagated { IfOk result (λ conflict. IfNone conflict (ArePropagated trail.new.lits clauses.now)) }
     ensures conflict { IfOk result (λ conflict. IfSome conflict (λ k. IsConflict trail.new.lits clauses.now k)) }
 {
     loop {
-        match sweep(trail, clauses, hints)? {
-            Swept::Conflict(number) => return Ok(Some(number)),
-            Swept::Changed => {}
-            Swept::Quiet => return Ok(None),
+        match propagate_once(trail, clauses, blockers)? {
+            Progress::Conflict(number) => return Ok(Some(number)),
+            Progress::Assigned => {}
+            Progress::Fixpoint => return Ok(None),
         }
     }
 }

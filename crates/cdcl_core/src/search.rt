@@ -1,13 +1,16 @@
-//! The search: propagation, decisions, and a clause learnt from each conflict.
+//! The search: propagation, decisions, and a clause learnt from each conflict. Before each decision on the trail every
+//! clause was propagated, and each true literal but the decisions has its reason.
 
-ghost use Rattle.std.specs.Prelude.{if◌then◌else◌, ◌≡◌, ◌≢◌, ℕ, List, ◌+◌, ◌-◌, ◌^◌, ◌<◌, ◌≤◌, ◌++◌, ◌∷◌, [], true, length, slice_get, Some, None, All, Contains, IfOk, OnOk, IfSome, IfNone};
+ghost use Rattle.std.specs.Prelude.{if◌then◌else◌, ◌≡◌, ◌≢◌, ℕ, List, ◌+◌, ◌-◌, ◌^◌, ◌<◌, ◌≤◌, ◌++◌, ◌∷◌, [], true};
+ghost use Rattle.std.specs.Prelude.{length, slice_get, Some, None, All, Contains, IfOk, OnOk, IfSome, IfNone};
 ghost use Rattle.cnf_core.specs.declared.clause.Clause.{Clause};
-ghost use Rattle.cnf_core.specs.Clause.{has, assigned, is_model, IsOver, HasNoModel};
-ghost use Rattle.cnf_core.specs.Resolution.{clause, IsAccepted, AreUnits};
-ghost use Rattle.cdcl_core.specs.Trail.{IsTrail, IsOpen, AreSettled, AreReasons, AreSettledBefore, AreAllAssigned, IsConflict};
-ghost use Rattle.cdcl_core.specs.Learning.{IsAsserting};
+ghost use Rattle.cnf_core.specs.Clause.{contains, assigned, is_model, IsOver, HasNoModel};
+ghost use Rattle.cnf_core.specs.Resolution.{clause, IsAccepted, AreNewClauses};
+ghost use Rattle.cdcl_core.specs.Trail.{IsTrail, IsUnassigned, ArePropagated, AreReasons, ArePropagatedBefore};
+ghost use Rattle.cdcl_core.specs.Trail.{AreAllAssigned, IsConflict};
+ghost use Rattle.cdcl_core.specs.Analysis.{IsAsserting};
 ghost use Rattle.cdcl_core.specs.Scores.{score, raised};
-ghost use Rattle.cdcl_core.specs.Sweep.{AreHints};
+ghost use Rattle.cdcl_core.specs.Propagation.{AreBlockers};
 ghost use Rattle.cdcl_core.specs.Search.{IsReady, IsLogOf};
 ghost use Rattle.cdcl_core.specs.Answer.{OnModel, OnRefuted, OnSpent, OnLog};
 
@@ -22,7 +25,7 @@ use std::alloc::{AllocError, Global};
 /// What a solver found.
 #[derive(Debug, Drop)]
 pub enum Answer {
-    /// A value for each variable, which make every clause true.
+    /// A value for each variable; together they make every clause true.
     Model(Seq<bool>),
     /// An accepted log: there is no model.
     Refuted(Log),
@@ -30,12 +33,12 @@ pub enum Answer {
     Spent(Log),
 }
 
-/// What a search keeps: the clauses, those that were given and then those that were learnt, a literal of
-/// each, which propagation looks at first, and the chains of the learnt ones.
+/// The state of a search: the clauses, those of the formula and then the learnt ones, a blocker for each, and the
+/// chains of the learnt ones.
 #[derive(Debug, Drop)]
 pub(crate) struct Search {
     clauses: Vec<Clause>,
-    hints: Vec<Lit>,
+    blockers: Vec<Lit>,
     trail: Trail,
     scores: Scores,
     log: Log,
@@ -54,7 +57,7 @@ fn has_empty(clauses: &[Clause]) -> bool
     false
 }
 
-/// The same clauses.
+/// A copy of the clauses.
 fn copied(alloc: Global, clauses: &[Clause]) -> Result<Vec<Clause>, AllocError>
     ensures { IfOk result (λ copies. copies.items ≡ clauses.now) }
 {
@@ -71,39 +74,39 @@ fn copied(alloc: Global, clauses: &[Clause]) -> Result<Vec<Clause>, AllocError>
 /// The first literal of each clause.
 fn first_lits(alloc: Global, clauses: &[Clause]) -> Result<Vec<Lit>, AllocError>
     requires { All (λ c. c.lits ≢ []) clauses.now }
-    ensures { IfOk result (λ hints. AreHints clauses.now hints.items) }
+    ensures { IfOk result (λ blockers. AreBlockers clauses.now blockers.items) }
 {
-    let mut hints = Vec::with_capacity(alloc, clauses.len())?;
+    let mut blockers = Vec::with_capacity(alloc, clauses.len())?;
     for clause in clauses {
-        hints.push(clause.lits.as_slice()[0])?;
+        blockers.push(clause.lits.as_slice()[0])?;
     }
-    Ok(hints)
+    Ok(blockers)
 }
 
-/// Propagates and decides until a clause is false, whose number it then answers, or until each
-/// variable has a value.
+/// The number of a clause that is falsified after propagation and decisions; none where each variable has a value and
+/// no clause is falsified.
 fn next_conflict(
     trail: &mut Trail,
     clauses: &[Clause],
-    hints: &mut Vec<Lit>,
+    blockers: &mut Vec<Lit>,
     scores: &Scores,
 ) -> Result<Option<usize>, AllocError>
     requires trail { IsTrail trail.old }
     requires scored { length scores.now.scores ≡ trail.old.variables }
     requires over { All (λ c. IsOver trail.old.variables c.lits) clauses.now }
     requires reasons { AreReasons clauses.now trail.old }
-    requires before { AreSettledBefore clauses.now trail.old }
-    requires hints { AreHints clauses.now hints.old.items }
-    ensures hints { OnOk result (AreHints clauses.now hints.new.items) }
+    requires before { ArePropagatedBefore clauses.now trail.old }
+    requires blockers { AreBlockers clauses.now blockers.old.items }
+    ensures blockers { OnOk result (AreBlockers clauses.now blockers.new.items) }
     ensures variables { OnOk result (trail.new.variables ≡ trail.old.variables) }
     ensures reasons { OnOk result (AreReasons clauses.now trail.new) }
-    ensures before { OnOk result (AreSettledBefore clauses.now trail.new) }
+    ensures before { OnOk result (ArePropagatedBefore clauses.now trail.new) }
     ensures conflict { IfOk result (λ found. IfSome found (λ k. IsConflict trail.new.lits clauses.now k)) }
-    ensures settled { IfOk result (λ found. IfNone found (AreSettled trail.new.lits clauses.now)) }
+    ensures propagated { IfOk result (λ found. IfNone found (ArePropagated trail.new.lits clauses.now)) }
     ensures assigned { IfOk result (λ found. IfNone found (AreAllAssigned trail.new)) }
 {
     loop {
-        let conflict = propagate(trail, clauses, hints)?;
+        let conflict = propagate(trail, clauses, blockers)?;
         if conflict.is_some() {
             return Ok(conflict);
         }
@@ -118,7 +121,8 @@ fn next_conflict(
 fn values_of(alloc: Global, trail: &Trail) -> Result<Vec<bool>, AllocError>
     ensures trail { IsTrail trail.now }
     ensures length { IfOk result (λ values. length values.items ≡ trail.now.variables) }
-    ensures values { IfOk result (λ values. (x : ℕ) → x < trail.now.variables → assigned values.items x ≡ has trail.now.lits (record { variable = x; positive = true })) }
+    ensures values { IfOk result (λ values. (x : ℕ) → x < trail.now.variables →
+        assigned values.items x ≡ contains trail.now.lits (record { variable = x; positive = true })) }
 {
     let mut values = Vec::with_capacity(alloc, trail.variables())?;
     for variable in 0..trail.variables() {
@@ -130,24 +134,26 @@ fn values_of(alloc: Global, trail: &Trail) -> Result<Vec<bool>, AllocError>
     Ok(values)
 }
 
-/// Takes back the decisions at or after a place, and makes the literal true that the clause of that
-/// number then forces.
-fn go_back(
+/// Backjumps: cancels the decisions at or after place `keep`, and makes the literal true that the last clause then
+/// forces.
+fn backjump(
     trail: &mut Trail,
     clauses: &[Clause],
     keep: usize,
     lit: Lit,
-    start: usize,
+    level_start: usize,
 ) -> Result<(), AllocError>
-    requires start { slice_get trail.old.starts (length trail.old.starts - 1) ≡ Some start }
+    requires level_start { slice_get trail.old.level_starts (length trail.old.level_starts - 1) ≡ Some level_start }
     requires there { lit.variable < trail.old.variables }
-    requires asserting { (older : List Clause) × (c : Clause) × (clauses.now ≡ older ++ c ∷ []) × AreReasons older trail.old × AreSettledBefore older trail.old × IsAsserting trail.old.lits c.lits lit start keep }
+    requires asserting { (older : List Clause) × (c : Clause) × (clauses.now ≡ older ++ c ∷ [])
+        × AreReasons older trail.old × ArePropagatedBefore older trail.old
+        × IsAsserting trail.old.lits c.lits lit level_start keep }
     ensures trail { IsTrail trail.new }
     ensures variables { OnOk result (trail.new.variables ≡ trail.old.variables) }
     ensures reasons { OnOk result (AreReasons clauses.now trail.new) }
-    ensures before { OnOk result (AreSettledBefore clauses.now trail.new) }
+    ensures before { OnOk result (ArePropagatedBefore clauses.now trail.new) }
 {
-    trail.cancel(keep);
+    trail.cancel_until(keep);
     trail.assign(lit, clauses.len() - 1)
 }
 
@@ -155,7 +161,8 @@ fn go_back(
 fn bump_all(scores: &mut Scores, marks: &[bool])
     requires { length marks.now ≡ length scores.old.scores }
     ensures length { length scores.new.scores ≡ length scores.old.scores }
-    ensures scores { (x : ℕ) → score scores.new.scores x ≡ if assigned marks.now x then raised scores.old.step (score scores.old.scores x) else score scores.old.scores x }
+    ensures scores { (x : ℕ) → score scores.new.scores x ≡
+        if assigned marks.now x then raised scores.old.step (score scores.old.scores x) else score scores.old.scores x }
 {
     for variable in 0..marks.len() {
         if marks[variable] {
@@ -176,7 +183,7 @@ impl Search {
     {
         let variables = cnf.variables();
         let clauses = copied(alloc, cnf.clauses())?;
-        let hints = first_lits(alloc, cnf.clauses())?;
+        let blockers = first_lits(alloc, cnf.clauses())?;
         let trail = Trail::new(alloc, variables)?;
         let scores = Scores::new(alloc, variables)?;
         let log = Log {
@@ -184,55 +191,67 @@ impl Search {
         };
         Ok(Search {
             clauses,
-            hints,
+            blockers,
             trail,
             scores,
             log,
         })
     }
 
-    /// Learns from the conflict at the false clause of a number, where a decision stands.
-    fn learn(&mut self, alloc: Global, conflict: usize, start: usize) -> Result<(), AllocError>
+    /// Learns a clause from the conflict at the falsified clause of a number, and backjumps. The last level begins at
+    /// `level_start`.
+    fn learn(
+        &mut self,
+        alloc: Global,
+        conflict: usize,
+        level_start: usize,
+    ) -> Result<(), AllocError>
         requires ready { IsReady self.old }
         requires conflict { IsConflict self.old.trail.lits self.old.clauses.items conflict }
-        requires start { slice_get self.old.trail.starts (length self.old.trail.starts - 1) ≡ Some start }
+        requires level_start { slice_get self.old.trail.level_starts (length self.old.trail.level_starts - 1)
+            ≡ Some level_start }
         ensures ready { OnOk result (IsReady self.new) }
         ensures trail { OnOk result (IsTrail self.new.trail) }
         ensures variables { OnOk result (self.new.trail.variables ≡ self.old.trail.variables) }
-        ensures log { OnOk result ((given : List Clause) → IsLogOf given self.old.log.chains self.old.clauses.items → IsLogOf given self.new.log.chains self.new.clauses.items) }
+        ensures log { OnOk result ((given : List Clause) →
+            IsLogOf given self.old.log.chains self.old.clauses.items →
+            IsLogOf given self.new.log.chains self.new.clauses.items) }
         ensures count { OnOk result (length self.new.log.chains ≡ length self.old.log.chains + 1) }
     {
         let trail = &self.trail;
-        let learnt = analysis::learn(
+        let learnt = analysis::analyze(
             alloc,
             trail.variables(),
             &self.clauses,
             trail.lits(),
             trail.reasons(),
             conflict,
-            start,
+            level_start,
         )?;
         bump_all(&mut self.scores, &learnt.marks);
         self.clauses.push(learnt.clause)?;
-        self.hints.push(learnt.lit)?;
+        self.blockers.push(learnt.lit)?;
         self.log.chains.push(learnt.chain)?;
-        go_back(
+        backjump(
             &mut self.trail,
             &self.clauses,
             learnt.keep,
             learnt.lit,
-            start,
+            level_start,
         )
     }
 
-    /// Derives the empty clause from the conflict at the false clause of a number, where no decision
-    /// stands.
+    /// Derives the empty clause from the conflict at the falsified clause of a number, at decision level 0.
     fn refute(&mut self, alloc: Global, conflict: usize) -> Result<(), AllocError>
         requires ready { IsReady self.old }
         requires conflict { IsConflict self.old.trail.lits self.old.clauses.items conflict }
-        requires start { slice_get self.old.trail.starts (length self.old.trail.starts - 1) ≡ None }
-        ensures accepted { OnOk result ((given : List Clause) → IsLogOf given self.old.log.chains self.old.clauses.items → IsAccepted given self.new.log.chains) }
-        ensures units { OnOk result ((given : List Clause) → IsLogOf given self.old.log.chains self.old.clauses.items → AreUnits given self.new.log.chains) }
+        requires level_start { slice_get self.old.trail.level_starts (length self.old.trail.level_starts - 1) ≡ None }
+        ensures accepted { OnOk result ((given : List Clause) →
+            IsLogOf given self.old.log.chains self.old.clauses.items →
+            IsAccepted given self.new.log.chains) }
+        ensures new_clauses { OnOk result ((given : List Clause) →
+            IsLogOf given self.old.log.chains self.old.clauses.items →
+            AreNewClauses given self.new.log.chains) }
         ensures count { OnOk result (length self.new.log.chains ≡ length self.old.log.chains + 1) }
     {
         let trail = &self.trail;
@@ -249,20 +268,22 @@ impl Search {
     }
 }
 
-/// Whether a formula has a model: one, or a log that refutes it, or that the fuel was spent.
+/// A model of a formula, or an accepted log that refutes it, or the log of the conflicts on which the fuel was spent.
 ///
-/// Each conflict costs one unit of fuel and gives one chain of the log, whose clause says something
-/// new; so over v variables 3^v units always suffice. `Spent` comes where a conflict stands and no fuel
-/// is left. A formula with an empty clause is refuted by the empty log.
+/// Each conflict costs one unit of fuel and adds one chain to the log, whose clause says something new; so over v
+/// variables 3^v units always suffice. `Spent` comes at a conflict with no fuel left. A formula with an empty clause is
+/// refuted by the empty log. The only error is out of memory.
 pub fn solve(alloc: Global, cnf: &Cnf, fuel: &mut Fuel) -> Result<Answer, AllocError>
     // A model makes every clause true; a refutation is accepted, and then there is none.
-    ensures model { IfOk result (λ a. OnModel a (λ values. (length values ≡ cnf.now.variables) × (is_model (assigned values) cnf.now.clauses ≡ true))) }
+    ensures model { IfOk result (λ a. OnModel a (λ values.
+        (length values ≡ cnf.now.variables) × (is_model (assigned values) cnf.now.clauses ≡ true))) }
     ensures refuted { IfOk result (λ a. OnRefuted a (λ chains. IsAccepted cnf.now.clauses chains)) }
     ensures no_model { IfOk result (λ a. OnRefuted a (λ chains. HasNoModel cnf.now.clauses)) }
-    ensures empty { Contains cnf.now.clauses (clause []) → IfOk result (λ a. a ≡ Answer.Refuted (record { chains = [] })) }
+    ensures empty { Contains cnf.now.clauses (clause []) →
+        IfOk result (λ a. a ≡ Answer.Refuted (record { chains = [] })) }
 
     // There is one chain for each unit that was spent, and each says something new.
-    ensures units { IfOk result (λ a. OnLog a (AreUnits cnf.now.clauses)) }
+    ensures new_clauses { IfOk result (λ a. OnLog a (AreNewClauses cnf.now.clauses)) }
     ensures count { IfOk result (λ a. OnLog a (λ chains. length chains + fuel.new ≡ fuel.old)) }
     ensures spent { IfOk result (λ a. OnSpent a (λ chains. fuel.new ≡ 0)) }
     ensures decided { 3 ^ cnf.now.variables ≤ fuel.old → IfOk result (λ a. OnSpent a (λ chains. ⊥)) }
@@ -278,7 +299,7 @@ pub fn solve(alloc: Global, cnf: &Cnf, fuel: &mut Fuel) -> Result<Answer, AllocE
         let found = next_conflict(
             &mut search.trail,
             &search.clauses,
-            &mut search.hints,
+            &mut search.blockers,
             &search.scores,
         )?;
         let Some(conflict) = found else {
@@ -289,11 +310,11 @@ pub fn solve(alloc: Global, cnf: &Cnf, fuel: &mut Fuel) -> Result<Answer, AllocE
             return Ok(Answer::Spent(search.log));
         }
         fuel.spend();
-        let Some(start) = search.trail.last_decision() else {
+        let Some(level_start) = search.trail.last_decision() else {
             search.refute(alloc, conflict)?;
             return Ok(Answer::Refuted(search.log));
         };
-        search.learn(alloc, conflict, start)?;
+        search.learn(alloc, conflict, level_start)?;
         search.scores.decay();
     }
 }

@@ -1,5 +1,5 @@
-//! The program `check_log_file`: it reads a formula and a log of resolution from its standard input,
-//! and prints the verdict on the log.
+//! The program `check_log_file`: it reads a formula and a log of resolution from standard input, and prints the verdict
+//! on the log.
 #![tactic(auto)]
 
 use anyhow::Result;

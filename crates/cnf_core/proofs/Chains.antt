@@ -1,10 +1,11 @@
 -- Logs that grow: one more step of a chain, one more chain of a log.
-use Rattle.std.proofs.Common.{◌≡◌, ℕ, List, [], ◌∷◌, ◌++◌, Option, Some, None, refl, subst, sym, ap, ◌∙◌, option_and_then}
+use Rattle.std.proofs.Common.{◌≡◌, ℕ, List, [], ◌∷◌, ◌++◌, Option, Some, None, refl, subst, sym, ap, ◌∙◌}
+use Rattle.std.proofs.Common.{option_and_then}
 use Rattle.std.proofs.lemmas.Option.{same_Some}
 use Rattle.cnf_core.specs.declared.clause.Lit.{Lit}
 use Rattle.cnf_core.specs.declared.clause.Clause.{Clause}
 use Rattle.cnf_core.specs.declared.log.Chain.{Chain}
-use Rattle.cnf_core.specs.Resolution.{step, after_steps, derived, clause, with_chains, IsUnit, AreUnits}
+use Rattle.cnf_core.specs.Resolution.{step, after_steps, derived, clause, with_chains, IsNewClause, AreNewClauses}
 
 bind-bind : {A B C : Type 0} (o : Option A) (f : A → Option B) (g : B → Option C) →
     option_and_then g (option_and_then f o) ≡ option_and_then (λ x. option_and_then g (f x)) o
@@ -35,7 +36,8 @@ with_chains-append (x ∷ xs) ys cs =
     ∙ sym (bind-bind (derived cs x) (λ lits. with_chains (cs ++ clause lits ∷ []) xs) (λ all. with_chains all ys))
 
 pub with_chains-more : (cs : List Clause) (chains : List Chain) (chain : Chain) (all : List Clause) (lits : List Lit) →
-    with_chains cs chains ≡ Some all → derived all chain ≡ Some lits → with_chains cs (chains ++ chain ∷ []) ≡ Some (all ++ clause lits ∷ [])
+    with_chains cs chains ≡ Some all → derived all chain ≡ Some lits →
+    with_chains cs (chains ++ chain ∷ []) ≡ Some (all ++ clause lits ∷ [])
 with_chains-more cs chains chain all lits h k =
     with_chains-append chains (chain ∷ []) cs
     ∙ ap (option_and_then (λ x. with_chains x (chain ∷ []))) h
@@ -49,11 +51,18 @@ with_chains-bad cs chains chain more all h k =
     ∙ ap (option_and_then (λ x. with_chains x (chain ∷ more))) h
     ∙ ap (option_and_then (λ x. with_chains (all ++ clause x ∷ []) more)) k
 
--- one more unit
-pub AreUnits-more : (chains : List Chain) (cs : List Clause) (chain : Chain) (all : List Clause) (lits : List Lit) →
-    AreUnits cs chains → with_chains cs chains ≡ Some all → derived all chain ≡ Some lits → IsUnit all lits → AreUnits cs (chains ++ chain ∷ [])
-AreUnits-more [] cs chain all lits u h k new =
+-- one more new clause
+pub AreNewClauses-more : (chains : List Chain) (cs : List Clause) (chain : Chain) (all : List Clause)
+    (lits : List Lit) →
+    AreNewClauses cs chains → with_chains cs chains ≡ Some all → derived all chain ≡ Some lits → IsNewClause all lits →
+    AreNewClauses cs (chains ++ chain ∷ [])
+AreNewClauses-more [] cs chain all lits u h k new =
     let same = same_Some cs all h in
-    (lits, ap (λ x. derived x chain) same ∙ k, subst (λ x. IsUnit x lits) (sym same) new, tt)
-AreUnits-more (x ∷ xs) cs chain all lits u h k new =
-    (u.0, u.1, u.2, AreUnits-more xs (cs ++ clause u.0 ∷ []) chain all lits u.3 (sym (ap (option_and_then (λ y. with_chains (cs ++ clause y ∷ []) xs)) u.1) ∙ h) k new)
+    (lits, ap (λ x. derived x chain) same ∙ k, subst (λ x. IsNewClause x lits) (sym same) new, tt)
+AreNewClauses-more (x ∷ xs) cs chain all lits u h k new = (
+  u.0,
+  u.1,
+  u.2,
+  AreNewClauses-more xs (cs ++ clause u.0 ∷ []) chain all lits u.3
+      (sym (ap (option_and_then (λ y. with_chains (cs ++ clause y ∷ []) xs)) u.1) ∙ h) k new,
+)

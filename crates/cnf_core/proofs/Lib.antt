@@ -3,5 +3,5 @@ pub mod Sound
 pub mod Same
 pub mod Chains
 pub mod Over
-pub mod UnitLemmas
-pub mod FewUnits
+pub mod NewClauseLemmas
+pub mod NewClausesBound

@@ -1,6 +1,7 @@
 -- Clauses, read as sets of literals, and their models.
 -- The terms are those of A. Biere, M. Heule, H. van Maaren, T. Walsh (eds.), Handbook of Satisfiability.
-use Rattle.std.specs.Prelude.{◌≡◌, ℕ, ◌<◌, ◌==◌, ◌&&◌, Bool, true, false, not, if◌then◌else◌, List, [], ◌∷◌, All, slice_get, unwrap_or}
+use Rattle.std.specs.Prelude.{◌≡◌, ℕ, ◌<◌, ◌==◌, ◌&&◌, Bool, true, false, not, if◌then◌else◌}
+use Rattle.std.specs.Prelude.{List, [], ◌∷◌, All, slice_get, unwrap_or}
 use Rattle.std.specs.List.{list_any, list_all}
 use Rattle.std.specs.Bool.{beq}
 use Rattle.cnf_core.specs.declared.clause.Lit.{Lit}
@@ -13,9 +14,9 @@ opposite l = record { variable = l.variable; positive = not l.positive }
 abbrev pub same_lit : Lit → Lit → Bool
 same_lit l m = (l.variable == m.variable) && beq l.positive m.positive
 
--- whether a literal stands in a clause
-abbrev pub has : List Lit → Lit → Bool
-has c l = list_any (same_lit l) c
+-- whether a clause contains a literal
+abbrev pub contains : List Lit → Lit → Bool
+contains c l = list_any (same_lit l) c
 
 -- an assignment gives each variable a truth value
 abbrev pub lit_true : (ℕ → Bool) → Lit → Bool
@@ -36,20 +37,32 @@ HasNoModel cs = (v : ℕ → Bool) → is_model v cs ≡ false
 abbrev pub assigned : List Bool → ℕ → Bool
 assigned values k = unwrap_or (slice_get values k) false
 
--- a clause over so many variables
+-- a clause over n variables, numbered from 0
 abbrev pub IsOver : ℕ → List Lit → Type 0
-IsOver variables c = All (λ l. l.variable < variables) c
+IsOver n c = All (λ l. l.variable < n) c
 
--- each literal of the one clause stands in the other
-abbrev pub IsWithin : List Lit → List Lit → Type 0
-IsWithin c d = (l : Lit) → has c l ≡ true → has d l ≡ true
+-- the second clause contains each literal of the first
+abbrev pub IsSubset : List Lit → List Lit → Type 0
+IsSubset c d = (l : Lit) → contains c l ≡ true → contains d l ≡ true
 
 -- the same set of literals
 abbrev pub AreSame : List Lit → List Lit → Type 0
-AreSame c d = (l : Lit) → has c l ≡ has d l
+AreSame c d = (l : Lit) → contains c l ≡ contains d l
 
 -- clause by clause the same sets
 abbrev pub AllSame : List Clause → List Clause → Type 0
 AllSame [] [] = Unit {0}
 AllSame (c ∷ cs) (d ∷ ds) = AreSame c.lits d.lits × AllSame cs ds
 AllSame _ _ = ⊥
+
+-- whether the second clause contains each literal of the first
+abbrev pub is_subset : List Lit → List Lit → Bool
+is_subset c d = list_all (contains d) c
+
+-- whether two literals of a clause are opposite
+abbrev pub is_tautology : List Lit → Bool
+is_tautology c = list_any (λ (l : Lit). contains c (opposite l)) c
+
+-- whether one of the clauses is a subset of a clause
+abbrev pub is_subsumed : List Clause → List Lit → Bool
+is_subsumed cs c = list_any (λ (d : Clause). is_subset d.lits c) cs

@@ -1,3 +1,3 @@
 pub mod Clause
 pub mod Resolution
-pub mod Kept
+pub mod Formula

@@ -1,3 +1,5 @@
+//! Literals and clauses. A clause is a list that is read as a set: order and repeats say nothing.
+
 ghost use Rattle.std.specs.Prelude.{◌≡◌, true};
 ghost use Rattle.cnf_core.specs.Clause.{opposite, lit_true, clause_true, assigned, IsOver};
 
@@ -22,7 +24,7 @@ impl Lit {
     }
 }
 
-/// Literals, one of which is to be true. It is read as a set: order and repeats say nothing.
+/// Literals, one of which is to be true. The empty clause is false under every assignment.
 #[derive(Debug, Drop)]
 pub struct Clause {
     pub lits: Seq<Lit>,

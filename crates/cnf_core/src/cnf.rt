@@ -1,14 +1,15 @@
+//! Formulas in conjunctive normal form. Each literal of a formula's clauses is over one of its variables.
+
 ghost use Rattle.std.specs.Prelude.{◌≡◌, ◌+◌, ◌<◌, ◌++◌, ◌∷◌, [], ◌^◌, length, OnOk, OnErr};
 ghost use Rattle.cnf_core.specs.Clause.{is_model, lit_true, clause_true, assigned, IsOver};
-ghost use Rattle.cnf_core.specs.Kept.{IsFormula};
+ghost use Rattle.cnf_core.specs.Formula.{IsFormula};
 
 use crate::clause::{Clause, Lit};
 use collections::Seq;
 use std::alloc::{AllocError, Global};
 use std::marker::Model;
 
-/// A formula in conjunctive normal form: a number of variables, and clauses over them. Contracts
-/// see it as these two.
+/// A formula in conjunctive normal form: a number of variables, and clauses over them. Contracts see it as these two.
 #[derive(Debug, Drop)]
 pub struct Cnf {
     variables: usize,
@@ -16,7 +17,7 @@ pub struct Cnf {
 }
 
 impl Model for Cnf {
-    ghost use Rattle.cnf_core.specs.Kept.{Formula, IsFormula};
+    ghost use Rattle.cnf_core.specs.Formula.{Formula, IsFormula};
 
     ghost Value = { Formula };
 
@@ -26,7 +27,7 @@ impl Model for Cnf {
 }
 
 impl Cnf {
-    /// So many variables and no clause.
+    /// The formula over n variables that has no clause.
     pub fn new(alloc: Global, variables: usize) -> Cnf
         ensures { result ≡ record { variables = variables; clauses = [] } }
     {
@@ -51,7 +52,7 @@ impl Cnf {
         self.clauses.as_slice()
     }
 
-    /// Adds a variable, and answers its number.
+    /// Adds a variable, and returns its number.
     pub fn variable(&mut self) -> usize
         requires { self.old.variables < 2 ^ 40 }
         ensures number { result ≡ self.old.variables }
@@ -62,10 +63,11 @@ impl Cnf {
         number
     }
 
-    /// Adds a clause at the end. An `Err` is want of memory; it leaves the formula as it was.
+    /// Adds a clause at the end. The only error is out of memory; it leaves the formula as it was.
     pub fn push(&mut self, clause: Clause) -> Result<(), AllocError>
         requires { IsOver self.old.variables clause.lits }
-        ensures ok { OnOk result (self.new ≡ record { variables = self.old.variables; clauses = self.old.clauses ++ clause ∷ [] }) }
+        ensures ok { OnOk result (self.new ≡
+            record { variables = self.old.variables; clauses = self.old.clauses ++ clause ∷ [] }) }
         ensures err { OnErr result (self.new ≡ self.old) }
     {
         match self.clauses.push(clause) {
@@ -74,7 +76,7 @@ impl Cnf {
         }
     }
 
-    /// Whether an assignment, a value a variable in order, makes every clause true.
+    /// Whether an assignment makes every clause true. Its values are those of the variables in order.
     pub fn value(&self, assignment: &[bool]) -> bool
         requires { length assignment.now ≡ self.now.variables }
         ensures { result ≡ is_model (assigned assignment.now) self.now.clauses }

@@ -1,3 +1,5 @@
+//! Fuel: a bound on work that is counted down. It only falls.
+
 ghost use Rattle.std.specs.Prelude.{◌≡◌, ◌+◌, ◌<◌};
 
 use std::marker::Model;
@@ -17,14 +19,14 @@ impl Model for Fuel {
 }
 
 impl Fuel {
-    /// So many units.
+    /// Fuel of that many units.
     pub fn new(units: u64) -> Fuel
         ensures { result ≡ units }
     {
         Fuel { units }
     }
 
-    /// The units that are left.
+    /// The number of units that are left.
     pub fn left(&self) -> u64
         ensures { result ≡ self.now }
     {

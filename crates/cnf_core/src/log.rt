@@ -1,8 +1,10 @@
+//! Derivations of clauses by resolution. A chain does not write its clause, which is what its steps derive.
+
 use crate::clause::Lit;
 use collections::Seq;
 
-/// The derivation of a clause by resolution: it begins with the clause of number `first`, and each
-/// step names a literal of the clause so far and a clause that has its opposite.
+/// The derivation of one clause: it begins with the clause of number `first`, and each step resolves the clause so far
+/// on a literal that it contains with the clause of a number, which contains the opposite literal.
 #[derive(Debug, Drop)]
 pub struct Chain {
     pub first: usize,

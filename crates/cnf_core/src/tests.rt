@@ -1,155 +1,114 @@
-ghost use Rattle.std.specs.Prelude.{◌≡◌};
+//! Values, new clauses and the laws, on formulas over two variables.
 
-use crate::{Chain, Clause, Cnf, Fuel, Lit, Log, few_units, is_unit, no_model};
+ghost use Rattle.std.specs.Prelude.{◌≡◌, ◌∷◌, [], IfOk};
+
+use crate::{Chain, Clause, Cnf, Lit, Log, is_new_clause, new_clauses_bound, no_model};
 use collections::Seq;
 use std::alloc::{AllocError, Global};
 use std::test::Fail;
 
-const X: Lit = Lit {
-    variable: 0,
-    positive: true,
-};
+/// The literal of a number: a variable from 1, negative for its negation.
+fn lit(number: i32) -> Lit {
+    Lit {
+        variable: number.unsigned_abs().saturating_sub(1) as usize,
+        positive: number > 0,
+    }
+}
 
-const NOT_X: Lit = Lit {
-    variable: 0,
-    positive: false,
-};
+/// The clause of such numbers.
+fn clause(alloc: Global, numbers: &[i32]) -> Result<Clause, AllocError> {
+    let mut lits = Seq::new(alloc);
+    for number in numbers {
+        lits.push(lit(*number))?;
+    }
+    Ok(Clause { lits })
+}
 
-const Y: Lit = Lit {
-    variable: 1,
-    positive: true,
-};
-
-const NOT_Y: Lit = Lit {
-    variable: 1,
-    positive: false,
-};
-
-fn clause(lits: Vec<Lit>) -> Clause
-    ensures { result.lits ≡ lits.items }
+/// The formula over two variables of such numbers, in which 0 ends a clause.
+fn formula(alloc: Global, numbers: &[i32]) -> Result<Cnf, AllocError>
+    ensures { IfOk result (λ cnf. cnf.variables ≡ 2) }
 {
-    Clause {
-        lits: Seq::from_vec(lits),
+    let mut cnf = Cnf::new(alloc, 2);
+    let mut lits = Seq::new(alloc);
+    for number in numbers {
+        let lit = lit(*number);
+        if *number == 0 {
+            cnf.push(Clause { lits })?;
+            lits = Seq::new(alloc);
+        } else if lit.variable < 2 {
+            lits.push(lit)?;
+        }
     }
+    Ok(cnf)
 }
 
+/// A name, a formula of x and y, an assignment, and whether it is a model.
+const VALUES: [(&str, &[i32], [bool; 2], bool); 7] = [
+    ("no clause", &[], [false, false], true),
+    ("an empty clause", &[1, 0, 0], [true, true], false),
+    ("neither", &[1, -2, 0, -1, 2, 0], [false, false], true),
+    ("y alone", &[1, -2, 0, -1, 2, 0], [false, true], false),
+    ("x alone", &[1, -2, 0, -1, 2, 0], [true, false], false),
+    ("both", &[1, -2, 0, -1, 2, 0], [true, true], true),
+    ("the last clause", &[1, 0, -1, 0], [true, false], false),
+];
+
 #[test]
-fn a_value_is_that_of_every_clause(rt: HostRuntime) -> Result<(), Fail> {
-    let assignments = [[false, false], [false, true], [true, false], [true, true]];
-    let mut cnf = Cnf::new(rt.alloc(), 2);
-    for assignment in assignments {
-        assert!(rt; cnf.value(assignment.as_slice()), "at {assignment:?}");
-    }
-    cnf.push(clause(vec![in rt.alloc(); X, NOT_Y]?))?;
-    cnf.push(clause(vec![in rt.alloc(); NOT_X, Y]?))?;
-    for (assignment, value) in [
-        ([false, false], true),
-        ([false, true], false),
-        ([true, false], false),
-        ([true, true], true),
-    ] {
-        assert_eq!(rt;
-            cnf.value(assignment.as_slice()),
-            value,
-            "at {assignment:?}"
-        );
-    }
-    cnf.push(clause(vec![in rt.alloc()]?))?;
-    for assignment in assignments {
-        assert!(rt; !cnf.value(assignment.as_slice()), "at {assignment:?}");
+fn a_model_makes_every_clause_true(rt: HostRuntime) -> Result<(), Fail> {
+    for (name, numbers, assignment, wanted) in VALUES {
+        let cnf = formula(rt.alloc(), numbers)?;
+        assert_eq!(rt; cnf.value(&assignment), wanted, "{name}");
     }
     Ok(())
 }
 
-#[test]
-fn a_formula_tells_what_was_put_in(rt: HostRuntime) -> Result<(), Fail> {
-    let mut cnf = Cnf::new(rt.alloc(), 1);
-    assert_eq!(rt; cnf.variables(), 1);
-    assert_eq!(rt; cnf.clauses().len(), 0);
-    assert_eq!(rt; cnf.variable(), 1);
-    assert_eq!(rt; cnf.variables(), 2);
-    cnf.push(clause(vec![in rt.alloc(); X, Y.opposite()]?))?;
-    cnf.push(clause(vec![in rt.alloc(); Y]?))?;
-    assert_eq!(rt; cnf.variables(), 2);
-    let clauses = cnf.clauses();
-    assert_eq!(rt; clauses.len(), 2);
-    assert_eq!(rt; clauses[0].lits.as_slice(), [X, NOT_Y].as_slice());
-    assert_eq!(rt; clauses[1].lits.as_slice(), [Y].as_slice());
-    Ok(())
-}
+/// A name, two earlier clauses, a clause, and whether it is new.
+const NEW: [(&str, &[i32], &[i32], &[i32], bool); 8] = [
+    ("an empty clause", &[2, 1, 2, 1], &[-1], &[], true),
+    ("a subset", &[2, 1, 2, 1], &[-1], &[1], true),
+    ("another sign", &[2, 1, 2, 1], &[-1], &[1, -2], true),
+    ("the last again", &[2, 1, 2, 1], &[-1], &[-1], false),
+    ("the first again", &[2, 1, 2, 1], &[-1], &[1, 2], false),
+    ("a tautology", &[3], &[4], &[1, 2, -1], false),
+    ("two empty clauses", &[1], &[], &[], false),
+    ("after an empty clause", &[1], &[], &[2], false),
+];
 
 #[test]
-fn fuel_counts_down(rt: HostRuntime) {
-    let mut fuel = Fuel::new(2);
-    assert_eq!(rt; fuel.left(), 2);
-    fuel.spend();
-    assert_eq!(rt; fuel.left(), 1);
-    fuel.spend();
-    assert_eq!(rt; fuel.left(), 0);
-}
-
-/// Clauses of these literals.
-fn clauses(alloc: Global, rows: &[&[Lit]]) -> Result<Vec<Clause>, AllocError> {
-    let mut made = Vec::new(alloc);
-    for row in rows {
-        made.push(clause(row.to_vec(alloc)?))?;
-    }
-    Ok(made)
-}
-
-#[test]
-fn a_unit_says_something_new(rt: HostRuntime) -> Result<(), Fail> {
-    let none: &[Lit] = &[];
-    let x: &[Lit] = &[X];
-    let not_x: &[Lit] = &[NOT_X];
-    let y: &[Lit] = &[Y];
-    let x_or_y: &[Lit] = &[X, Y];
-    let y_or_x_twice: &[Lit] = &[Y, X, Y, X];
-    let x_or_not_y: &[Lit] = &[X, NOT_Y];
-    let both_signs: &[Lit] = &[X, Y, NOT_X];
-    let nothing: &[&[Lit]] = &[];
-    let some: &[&[Lit]] = &[y_or_x_twice, not_x];
-    let with_empty: &[&[Lit]] = &[x, none];
-    for (earlier, lits, wanted) in [
-        (nothing, none, true),
-        (nothing, x, true),
-        (nothing, y_or_x_twice, true),
-        (nothing, both_signs, false),
-        (some, none, true),
-        (some, x, true),
-        (some, y, true),
-        (some, not_x, false),
-        (some, x_or_y, false),
-        (some, y_or_x_twice, false),
-        (some, x_or_not_y, true),
-        (some, both_signs, false),
-        (with_empty, none, false),
-        (with_empty, y, false),
-        (with_empty, x_or_not_y, false),
-    ] {
-        let before = clauses(rt.alloc(), earlier)?;
-        let last = clause(lits.to_vec(rt.alloc())?);
-        assert_eq!(rt;
-            is_unit(before.as_slice(), &last),
-            wanted,
-            "{lits:?} after {earlier:?}"
-        );
+fn a_new_clause_is_no_tautology_and_not_subsumed(rt: HostRuntime) -> Result<(), Fail> {
+    for (name, first, second, last, wanted) in NEW {
+        let mut earlier = Vec::new(rt.alloc());
+        earlier.push(clause(rt.alloc(), first)?)?;
+        earlier.push(clause(rt.alloc(), second)?)?;
+        let last = clause(rt.alloc(), last)?;
+        assert_eq!(rt; is_new_clause(&earlier, &last), wanted, "{name}");
     }
     Ok(())
+}
+
+/// The clause of one literal.
+fn unit(alloc: Global, lit: Lit) -> Result<Clause, AllocError>
+    ensures { IfOk result (λ c. c.lits ≡ lit ∷ []) }
+{
+    Ok(Clause {
+        lits: Seq::from_vec(vec![in alloc; lit]?),
+    })
 }
 
 #[test]
 fn a_refuted_formula_has_no_model(rt: HostRuntime) -> Result<(), Fail> {
+    let x = Lit {
+        variable: 0,
+        positive: true,
+    };
     let mut cnf = Cnf::new(rt.alloc(), 1);
-    cnf.push(clause(vec![in rt.alloc(); X]?))?;
-    cnf.push(clause(vec![in rt.alloc(); NOT_X]?))?;
-    let steps = Seq::from_vec(vec![in rt.alloc(); (X, 1)]?);
+    cnf.push(unit(rt.alloc(), x)?)?;
+    cnf.push(unit(rt.alloc(), x.opposite())?)?;
+    let steps = Seq::from_vec(vec![in rt.alloc(); (x, 1)]?);
     let chains = Seq::from_vec(vec![in rt.alloc(); Chain { first: 0, steps }]?);
     let log = Log { chains };
     no_model(&cnf, &log);
-    few_units(&cnf, &log);
-    for assignment in [[false], [true]] {
-        assert!(rt; !cnf.value(assignment.as_slice()), "at {assignment:?}");
-    }
+    new_clauses_bound(&cnf, &log);
+    assert!(rt; !cnf.value(&[true]));
     Ok(())
 }

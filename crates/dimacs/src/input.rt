@@ -1,3 +1,5 @@
+//! The lines of a formula and of a log after it. Each clause that is read is over the formula's variables.
+
 ghost use Rattle.std.specs.Prelude.{IfOk};
 ghost use Rattle.cnf_core.specs.Clause.{IsOver};
 
@@ -8,7 +10,7 @@ use std::alloc::Global;
 use std::io;
 use std::io::{BufRead, BufReader};
 
-/// What the lines so far say.
+/// The formula and the log of the lines so far.
 #[derive(Drop)]
 pub struct Input {
     pub cnf: Cnf,
@@ -16,7 +18,7 @@ pub struct Input {
 }
 
 impl Input {
-    /// No line yet.
+    /// The formula without a variable, and the log without a chain.
     fn new(alloc: Global) -> Input {
         Input {
             cnf: Cnf::new(alloc, 0),
@@ -45,7 +47,8 @@ impl Input {
     }
 }
 
-/// The formula and the log of the lines of standard input.
+/// Reads a formula and a log over it from standard input, to its end. An error is the first line that is not of the
+/// form, a fault of reading, or out of memory.
 pub fn read(rt: &(impl io::Input + AllocGlobal)) -> Result<Input> {
     let mut input = Input::new(rt.alloc());
     for line in BufReader::new(rt.alloc(), rt.reader())?.lines(rt.alloc()) {
@@ -54,7 +57,7 @@ pub fn read(rt: &(impl io::Input + AllocGlobal)) -> Result<Input> {
     Ok(input)
 }
 
-/// The formula without clauses that a header's line begins.
+/// The formula without clauses that a header line begins.
 fn header(alloc: Global, line: &str) -> Result<Cnf> {
     let Some(word) = line.split_whitespace().nth(2) else {
         bail!("no number of variables: {line}");
@@ -75,7 +78,7 @@ fn lit(word: &str) -> Result<Option<Lit>> {
     }))
 }
 
-/// The clause of a line, over so many variables.
+/// The clause of a line, over n variables.
 fn clause(alloc: Global, variables: usize, line: &str) -> Result<Clause>
     ensures { IfOk result (λ c. IsOver variables c.lits) }
 {

@@ -1,4 +1,4 @@
-//! The reader of formulas in the form of DIMACS files, a clause a line, and of a log after it:
+//! The reader of formulas in DIMACS form, a clause a line, and of a log after them, from standard input ([`read`]):
 //!
 //! ```text
 //! c a comment
@@ -7,8 +7,10 @@
 //! r FIRST LITERAL NUMBER LITERAL NUMBER ..
 //! ```
 //!
-//! A line `r` is a chain: it begins with the clause of number `FIRST`, and each step names a literal
-//! and a clause. Clauses are numbered from 0, those of the formula first.
+//! A line `r` is a chain: it begins with the clause of number `FIRST`, and each step names a literal and a clause.
+//! Clauses are numbered from 0, those of the formula first. The form of formulas is that of the SAT competitions.
+//!
+//! - `input`: the lines, and what they make
 #![tactic(auto)]
 
 mod input;

@@ -1,4 +1,4 @@
 pub mod SetLemmas
 pub mod StepLemmas
 pub mod LogLemmas
-pub mod UnitLemmas
+pub mod NewClausesLemmas

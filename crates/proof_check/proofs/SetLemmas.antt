@@ -1,39 +1,44 @@
 -- What the marks and the list of added literals say of the set.
-use Rattle.std.proofs.Common.{◌≡◌, ℕ, zero, suc, ◌<◌, ◌&&◌, ◌||◌, Bool, true, false, not, cond, List, [], ◌∷◌, ◌++◌, refl, sym, ap, ◌∙◌, subst, arith, filter, length, get_or, unwrap_or, slice_get}
+use Rattle.std.proofs.Common.{◌≡◌, ℕ, zero, suc, ◌<◌, ◌&&◌, ◌||◌, Bool, true, false, not, cond, List, [], ◌∷◌, ◌++◌}
+use Rattle.std.proofs.Common.{refl, sym, ap, ◌∙◌, subst, arith, filter, length, get_or, unwrap_or, slice_get}
 use Rattle.std.proofs.Math.Bool.{and-false, or-false}
 use Rattle.std.proofs.lemmas.Bool.{false≢true}
 use Rattle.std.proofs.lemmas.List.Folds.{list_any_at}
 use Rattle.cnf_core.specs.declared.clause.Lit.{Lit}
-use Rattle.cnf_core.specs.Clause.{same_lit, has, IsOver}
-use Rattle.cnf_core.proofs.Sets.{same_lit-true, same_lit-itself, same_lit-sym, or-right, has-append, has-head, has-left, has-right}
+use Rattle.cnf_core.specs.Clause.{same_lit, contains, IsOver}
+use Rattle.cnf_core.proofs.Sets.{same_lit-true, same_lit-itself, same_lit-sym, or-right, contains-append, contains-head}
+use Rattle.cnf_core.proofs.Sets.{contains-left, contains-right}
 use Rattle.proof_check.specs.declared.marks.Marks.{Marks}
 use Rattle.proof_check.specs.Marks.{is_marked, KeepsMarks}
-use Rattle.proof_check.specs.LitSet.{Literals, literals_of, IsKept, AreDistinct}
+use Rattle.proof_check.specs.LitSet.{Literals, literals_of, IsLitSet, AreDistinct}
 
 -- the literals that pass a test
-pub has-filter : (p : Lit → Bool) (c : List Lit) (l : Lit) → has (filter p c) l ≡ (p l && has c l)
-has-filter p [] l = sym (and-false (p l))
-has-filter p (x ∷ xs) l = by (same_lit l x) (p x) (p l) (has xs l) refl (λ s. ap p (same_lit-true l x s)) (has-filter p xs l)
+pub contains-filter : (p : Lit → Bool) (c : List Lit) (l : Lit) → contains (filter p c) l ≡ (p l && contains c l)
+contains-filter p [] l = sym (and-false (p l))
+contains-filter p (x ∷ xs) l =
+    by (same_lit l x) (p x) (p l) (contains xs l) refl (λ s. ap p (same_lit-true l x s)) (contains-filter p xs l)
   where
-    by : (b q r h : Bool) → same_lit l x ≡ b → (b ≡ true → r ≡ q) → has (filter p xs) l ≡ (r && h) →
-        has (cond q (x ∷ filter p xs) (filter p xs)) l ≡ (r && (b || h))
-    by true true r h e k ih = ap (λ z. z || has (filter p xs) l) e ∙ ap (λ z. z && true) (sym (k refl))
+    by : (b q r h : Bool) → same_lit l x ≡ b → (b ≡ true → r ≡ q) → contains (filter p xs) l ≡ (r && h) →
+        contains (cond q (x ∷ filter p xs) (filter p xs)) l ≡ (r && (b || h))
+    by true true r h e k ih = ap (λ z. z || contains (filter p xs) l) e ∙ ap (λ z. z && true) (sym (k refl))
     by true false r h e k ih = ih ∙ ap (λ z. z && h) (k refl) ∙ ap (λ z. z && true) (sym (k refl))
-    by false true r h e k ih = ap (λ z. z || has (filter p xs) l) e ∙ ih
+    by false true r h e k ih = ap (λ z. z || contains (filter p xs) l) e ∙ ih
     by false false r h e k ih = ih
 
 -- the set has the literals that are marked
-pub literals-marked : (variables : ℕ) (marks : Marks) (added : List Lit) → IsKept variables marks added → (l : Lit) →
-    has (filter (is_marked marks) added) l ≡ is_marked marks l
-literals-marked variables marks added kept l = has-filter (is_marked marks) added l ∙ by (is_marked marks l) refl
+pub literals-marked : (variables : ℕ) (marks : Marks) (added : List Lit) → IsLitSet variables marks added → (l : Lit) →
+    contains (filter (is_marked marks) added) l ≡ is_marked marks l
+literals-marked variables marks added kept l = contains-filter (is_marked marks) added l ∙ by (is_marked marks l) refl
   where
-    by : (b : Bool) → is_marked marks l ≡ b → (b && has added l) ≡ b
+    by : (b : Bool) → is_marked marks l ≡ b → (b && contains added l) ≡ b
     by true e = kept.listed l e
     by false e = refl
 
-pub set-marked : (variables : ℕ) (marks : Marks) (added : List Lit) (s : Literals) → IsKept variables marks added → literals_of variables marks added ≡ s →
-    (l : Lit) → has s.lits l ≡ is_marked marks l
-set-marked variables marks added s kept e l = ap (λ (t : Literals). has t.lits l) (sym e) ∙ literals-marked variables marks added kept l
+pub set-marked : (variables : ℕ) (marks : Marks) (added : List Lit) (s : Literals) → IsLitSet variables marks added →
+    literals_of variables marks added ≡ s →
+    (l : Lit) → contains s.lits l ≡ is_marked marks l
+set-marked variables marks added s kept e l = ap (λ (t : Literals). contains t.lits l) (sym e)
+    ∙ literals-marked variables marks added kept l
 
 read-within : (xs : List Bool) (k : ℕ) → unwrap_or (slice_get xs k) false ≡ true → k < length xs
 read-within [] k e = absurd (false≢true e)
@@ -41,45 +46,54 @@ read-within (x ∷ xs) zero e = omega arith
 read-within (x ∷ xs) (suc k) e = let h : k < length xs = read-within xs k e in omega arith
 
 -- a marked literal's variable is there
-pub marked-within : (variables : ℕ) (marks : Marks) (l : Lit) → length marks.positive.items ≡ variables → length marks.negative.items ≡ variables →
+pub marked-within : (variables : ℕ) (marks : Marks) (l : Lit) → length marks.positive.items ≡ variables →
+    length marks.negative.items ≡ variables →
     is_marked marks l ≡ true → l.variable < variables
 marked-within variables marks l p n e = by l.positive e
   where
-    by : (b : Bool) → unwrap_or (slice_get (cond b marks.positive.items marks.negative.items) l.variable) false ≡ true → l.variable < variables
+    by : (b : Bool) → unwrap_or (slice_get (cond b marks.positive.items marks.negative.items) l.variable) false ≡ true →
+        l.variable < variables
     by true h = subst (λ k. l.variable < k) p (read-within marks.positive.items l.variable h)
     by false h = subst (λ k. l.variable < k) n (read-within marks.negative.items l.variable h)
 
--- a literal that stands in the clause adds nothing
-pub has-again : (c : List Lit) (lit l : Lit) → has c lit ≡ true → has c l ≡ (same_lit lit l || has c l)
-has-again c lit l h = by (same_lit lit l) refl
+-- a literal that the clause contains adds nothing
+pub contains-again : (c : List Lit) (lit l : Lit) → contains c lit ≡ true →
+    contains c l ≡ (same_lit lit l || contains c l)
+contains-again c lit l h = by (same_lit lit l) refl
   where
-    by : (b : Bool) → same_lit lit l ≡ b → has c l ≡ (b || has c l)
-    by true e = ap (has c) (sym (same_lit-true lit l e)) ∙ h
+    by : (b : Bool) → same_lit lit l ≡ b → contains c l ≡ (b || contains c l)
+    by true e = ap (contains c) (sym (same_lit-true lit l e)) ∙ h
     by false e = refl
 
 -- a literal that does not stand in the clause takes nothing away
-pub has-still : (c : List Lit) (lit l : Lit) → has c lit ≡ false → has c l ≡ (not (same_lit lit l) && has c l)
-has-still c lit l h = by (same_lit lit l) refl
+pub contains-still : (c : List Lit) (lit l : Lit) → contains c lit ≡ false →
+    contains c l ≡ (not (same_lit lit l) && contains c l)
+contains-still c lit l h = by (same_lit lit l) refl
   where
-    by : (b : Bool) → same_lit lit l ≡ b → has c l ≡ (not b && has c l)
-    by true e = ap (has c) (sym (same_lit-true lit l e)) ∙ h
+    by : (b : Bool) → same_lit lit l ≡ b → contains c l ≡ (not b && contains c l)
+    by true e = ap (contains c) (sym (same_lit-true lit l e)) ∙ h
     by false e = refl
 
 -- one more mark, and its literal in the list
-pub kept-added : (variables : ℕ) (old new : Marks) (added : List Lit) (lit : Lit) → IsKept variables old added →
+pub set-added : (variables : ℕ) (old new : Marks) (added : List Lit) (lit : Lit) → IsLitSet variables old added →
     length new.positive.items ≡ length old.positive.items → length new.negative.items ≡ length old.negative.items →
-    ((l : Lit) → is_marked new l ≡ cond (same_lit lit l) true (is_marked old l)) → IsKept variables new (added ++ lit ∷ [])
-kept-added variables old new added lit kept p n now = record {
+    ((l : Lit) → is_marked new l ≡ cond (same_lit lit l) true (is_marked old l)) →
+    IsLitSet variables new (added ++ lit ∷ [])
+set-added variables old new added lit kept p n now = record {
   positive = p ∙ kept.positive;
   negative = n ∙ kept.negative;
   listed = λ l e. by l (same_lit lit l) refl (sym (now l) ∙ e);
 }
   where
-    by : (l : Lit) (b : Bool) → same_lit lit l ≡ b → cond b true (is_marked old l) ≡ true → has (added ++ lit ∷ []) l ≡ true
-    by l true e h = has-right added (lit ∷ []) l (ap (has (lit ∷ [])) (sym (same_lit-true lit l e)) ∙ has-head lit [])
-    by l false e h = has-left added (lit ∷ []) l (kept.listed l h)
+    by : (l : Lit) (b : Bool) → same_lit lit l ≡ b → cond b true (is_marked old l) ≡ true →
+        contains (added ++ lit ∷ []) l ≡ true
+    by l true e h =
+        contains-right added (lit ∷ []) l (ap (contains (lit ∷ [])) (sym (same_lit-true lit l e))
+        ∙ contains-head lit [])
+    by l false e h = contains-left added (lit ∷ []) l (kept.listed l h)
 
-pub added-marked : (old new : Marks) (lit : Lit) → ((l : Lit) → is_marked new l ≡ cond (same_lit lit l) true (is_marked old l)) →
+pub added-marked : (old new : Marks) (lit : Lit) →
+    ((l : Lit) → is_marked new l ≡ cond (same_lit lit l) true (is_marked old l)) →
     (l : Lit) → is_marked new l ≡ (same_lit lit l || is_marked old l)
 added-marked old new lit now l = now l ∙ by (same_lit lit l)
   where
@@ -88,20 +102,21 @@ added-marked old new lit now l = now l ∙ by (same_lit lit l)
     by false = refl
 
 -- one mark less
-pub kept-removed : (variables : ℕ) (old new : Marks) (added : List Lit) (lit : Lit) → IsKept variables old added →
+pub set-removed : (variables : ℕ) (old new : Marks) (added : List Lit) (lit : Lit) → IsLitSet variables old added →
     length new.positive.items ≡ length old.positive.items → length new.negative.items ≡ length old.negative.items →
-    ((l : Lit) → is_marked new l ≡ cond (same_lit lit l) false (is_marked old l)) → IsKept variables new added
-kept-removed variables old new added lit kept p n now = record {
+    ((l : Lit) → is_marked new l ≡ cond (same_lit lit l) false (is_marked old l)) → IsLitSet variables new added
+set-removed variables old new added lit kept p n now = record {
   positive = p ∙ kept.positive;
   negative = n ∙ kept.negative;
   listed = λ l e. by l (same_lit lit l) (sym (now l) ∙ e);
 }
   where
-    by : (l : Lit) (b : Bool) → cond b false (is_marked old l) ≡ true → has added l ≡ true
+    by : (l : Lit) (b : Bool) → cond b false (is_marked old l) ≡ true → contains added l ≡ true
     by l true h = absurd (false≢true h)
     by l false h = kept.listed l h
 
-pub removed-marked : (old new : Marks) (lit : Lit) → ((l : Lit) → is_marked new l ≡ cond (same_lit lit l) false (is_marked old l)) →
+pub removed-marked : (old new : Marks) (lit : Lit) →
+    ((l : Lit) → is_marked new l ≡ cond (same_lit lit l) false (is_marked old l)) →
     (l : Lit) → is_marked new l ≡ (not (same_lit lit l) && is_marked old l)
 removed-marked old new lit now l = now l ∙ by (same_lit lit l)
   where
@@ -112,13 +127,14 @@ removed-marked old new lit now l = now l ∙ by (same_lit lit l)
 -- marks that are taken away: those left stand in the rest of the list, and those gone in the clause
 pub record Unmarks (old new : Marks) (rest lits : List Lit) : Type 0 where
   pub kept : KeepsMarks old new
-  pub listed : (l : Lit) → is_marked new l ≡ true → has rest l ≡ true
-  pub moved : (l : Lit) → (has lits l || is_marked new l) ≡ is_marked old l
-  pub apart : (l : Lit) → is_marked new l ≡ true → has lits l ≡ false
+  pub listed : (l : Lit) → is_marked new l ≡ true → contains rest l ≡ true
+  pub moved : (l : Lit) → (contains lits l || is_marked new l) ≡ is_marked old l
+  pub apart : (l : Lit) → is_marked new l ≡ true → contains lits l ≡ false
   pub distinct : AreDistinct lits
 
 -- a clause of marked literals is over the variables
-pub marked-over : (variables : ℕ) (marks : Marks) (added c : List Lit) → IsKept variables marks added → ((l : Lit) → has c l ≡ is_marked marks l) → IsOver variables c
+pub marked-over : (variables : ℕ) (marks : Marks) (added c : List Lit) → IsLitSet variables marks added →
+    ((l : Lit) → contains c l ≡ is_marked marks l) → IsOver variables c
 marked-over variables marks added c kept same = λ k d within.
     let here = list_any_at (same_lit (get_or c k d)) c k d within (same_lit-itself (get_or c k d)) in
     marked-within variables marks (get_or c k d) kept.positive kept.negative (sym (same (get_or c k d)) ∙ here)
@@ -128,20 +144,22 @@ abbrev pub no_lit : Lit
 no_lit = record { variable = 0; positive = false }
 
 -- one more literal at the end
-has-push : (c : List Lit) (lit l : Lit) → has (c ++ lit ∷ []) l ≡ (has c l || same_lit l lit)
-has-push c lit l = has-append c (lit ∷ []) l ∙ ap (λ b. has c l || b) (or-false (same_lit l lit))
+contains-push : (c : List Lit) (lit l : Lit) → contains (c ++ lit ∷ []) l ≡ (contains c l || same_lit l lit)
+contains-push c lit l = contains-append c (lit ∷ []) l ∙ ap (λ b. contains c l || b) (or-false (same_lit l lit))
 
-AreDistinct-push : (c : List Lit) (lit : Lit) → AreDistinct c → has c lit ≡ false → AreDistinct (c ++ lit ∷ [])
+AreDistinct-push : (c : List Lit) (lit : Lit) → AreDistinct c → contains c lit ≡ false → AreDistinct (c ++ lit ∷ [])
 AreDistinct-push [] lit d new = (refl, tt)
 AreDistinct-push (x ∷ xs) lit d new = by (same_lit lit x) refl new (AreDistinct-push xs lit d.1)
   where
-    by : (b : Bool) → same_lit lit x ≡ b → (b || has xs lit) ≡ false → (has xs lit ≡ false → AreDistinct (xs ++ lit ∷ [])) →
-        (has (xs ++ lit ∷ []) x ≡ false) × AreDistinct (xs ++ lit ∷ [])
+    by : (b : Bool) → same_lit lit x ≡ b → (b || contains xs lit) ≡ false →
+        (contains xs lit ≡ false → AreDistinct (xs ++ lit ∷ [])) →
+        (contains (xs ++ lit ∷ []) x ≡ false) × AreDistinct (xs ++ lit ∷ [])
     by true e f more = absurd (false≢true (sym f))
-    by false e f more = (has-push xs lit x ∙ ap (λ b. b || same_lit x lit) d.0 ∙ same_lit-sym x lit ∙ e, more f)
+    by false e f more = (contains-push xs lit x ∙ ap (λ b. b || same_lit x lit) d.0 ∙ same_lit-sym x lit ∙ e, more f)
 
 -- a literal that is not marked is passed over
-pub Unmarks-pass : (old now : Marks) (lit : Lit) (rest lits : List Lit) → is_marked now lit ≡ false → Unmarks old now (lit ∷ rest) lits → Unmarks old now rest lits
+pub Unmarks-pass : (old now : Marks) (lit : Lit) (rest lits : List Lit) → is_marked now lit ≡ false →
+    Unmarks old now (lit ∷ rest) lits → Unmarks old now rest lits
 Unmarks-pass old now lit rest lits unmarked u = record {
   kept = u.kept;
   listed = λ l e. by l e (same_lit l lit) refl (u.listed l e);
@@ -150,7 +168,8 @@ Unmarks-pass old now lit rest lits unmarked u = record {
   distinct = u.distinct;
 }
   where
-    by : (l : Lit) → is_marked now l ≡ true → (b : Bool) → same_lit l lit ≡ b → (b || has rest l) ≡ true → has rest l ≡ true
+    by : (l : Lit) → is_marked now l ≡ true → (b : Bool) → same_lit l lit ≡ b → (b || contains rest l) ≡ true →
+        contains rest l ≡ true
     by l e true s h = absurd (false≢true (sym unmarked ∙ ap (is_marked now) (sym (same_lit-true l lit s)) ∙ e))
     by l e false s h = h
 
@@ -165,25 +184,35 @@ Unmarks-move old now new lit rest lits marked p n is u = record {
     negative = n ∙ u.kept.negative;
     no_more = λ l e. u.kept.no_more l (other l e).1;
   };
-  listed = λ l e. ap (λ b. b || has rest l) (sym (same_lit-sym l lit ∙ (other l e).0)) ∙ u.listed l (other l e).1;
+  listed = λ l e. ap (λ b. b || contains rest l) (sym (same_lit-sym l lit ∙ (other l e).0)) ∙ u.listed l (other l e).1;
   moved = λ l. move l (same_lit lit l) refl;
-  apart = λ l e. has-push lits lit l ∙ ap (λ b. b || same_lit l lit) (u.apart l (other l e).1) ∙ same_lit-sym l lit ∙ (other l e).0;
+  apart = λ l e. contains-push lits lit l ∙ ap (λ b. b || same_lit l lit) (u.apart l (other l e).1) ∙ same_lit-sym l lit
+      ∙ (other l e).0;
   distinct = AreDistinct-push lits lit u.distinct (u.apart lit marked);
 }
   where
     other : (l : Lit) → is_marked new l ≡ true → (same_lit lit l ≡ false) × (is_marked now l ≡ true)
     other l e = by (same_lit lit l) refl (sym (is l) ∙ e)
       where
-        by : (b : Bool) → same_lit lit l ≡ b → cond b false (is_marked now l) ≡ true → (same_lit lit l ≡ false) × (is_marked now l ≡ true)
+        by : (b : Bool) → same_lit lit l ≡ b → cond b false (is_marked now l) ≡ true →
+            (same_lit lit l ≡ false) × (is_marked now l ≡ true)
         by true s h = absurd (false≢true h)
         by false s h = (s, h)
 
-    move : (l : Lit) (b : Bool) → same_lit lit l ≡ b → (has (lits ++ lit ∷ []) l || is_marked new l) ≡ is_marked old l
+    move : (l : Lit) (b : Bool) → same_lit lit l ≡ b →
+        (contains (lits ++ lit ∷ []) l || is_marked new l) ≡ is_marked old l
     move l true s =
-        let here : has (lits ++ lit ∷ []) l ≡ true = has-right lits (lit ∷ []) l (ap (has (lit ∷ [])) (sym (same_lit-true lit l s)) ∙ has-head lit []) in
-        let was : is_marked old l ≡ true = sym (u.moved l) ∙ or-right (has lits l) (is_marked now l) (ap (is_marked now) (sym (same_lit-true lit l s)) ∙ marked) in
+        let here : contains (lits ++ lit ∷ []) l ≡ true =
+        contains-right lits (lit ∷ []) l (ap (contains (lit ∷ [])) (sym (same_lit-true lit l s))
+        ∙ contains-head lit []) in
+        let was : is_marked old l ≡ true =
+        sym (u.moved l)
+        ∙ or-right (contains lits l) (is_marked now l) (ap (is_marked now) (sym (same_lit-true lit l s)) ∙ marked)
+        in
         ap (λ b. b || is_marked new l) here ∙ sym was
     move l false s =
         let same : is_marked new l ≡ is_marked now l = is l ∙ ap (λ b. cond b false (is_marked now l)) s in
-        let has_same : has (lits ++ lit ∷ []) l ≡ has lits l = has-push lits lit l ∙ ap (λ b. has lits l || b) (same_lit-sym l lit ∙ s) ∙ or-false (has lits l) in
+        let has_same : contains (lits ++ lit ∷ []) l ≡ contains lits l =
+        contains-push lits lit l ∙ ap (λ b. contains lits l || b) (same_lit-sym l lit ∙ s)
+        ∙ or-false (contains lits l) in
         (λ i. has_same i || same i) ∙ u.moved l

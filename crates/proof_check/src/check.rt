@@ -1,12 +1,11 @@
-//! The check of a log, chain by chain.
-//!
-//! The clause so far of a chain is a set of marks, so a step costs the length of the clause that it
-//! names and not that of the clause so far. The clause of a chain is kept without repeats.
+//! The check of a log, chain by chain. The clause so far of a chain is a set of marks, so a step costs the length of
+//! the clause that it names and not that of the clause so far. The clause of a chain is kept without repeats.
 
-ghost use Rattle.std.specs.Prelude.{◌≡◌, ◌++◌, List, [], length, slice_get, None, Some, All, Contains, IsTrue, ◌↔◌, IfOk, IfSome, OnOk, MatchOption};
+ghost use Rattle.std.specs.Prelude.{◌≡◌, ◌++◌, List, [], length, slice_get, None, Some, All, Contains, IsTrue, ◌↔◌};
+ghost use Rattle.std.specs.Prelude.{IfOk, IfSome, OnOk, MatchOption};
 ghost use Rattle.cnf_core.specs.declared.clause.Lit.{Lit};
 ghost use Rattle.cnf_core.specs.declared.clause.Clause.{Clause};
-ghost use Rattle.cnf_core.specs.Clause.{has, AreSame, HasNoModel, IsOver};
+ghost use Rattle.cnf_core.specs.Clause.{contains, AreSame, HasNoModel, IsOver};
 ghost use Rattle.cnf_core.specs.Resolution.{without, resolvent, after_steps, clause};
 ghost use Rattle.proof_check.specs.declared.check.Verdict.{Verdict};
 ghost use Rattle.proof_check.specs.Check.{Gives, IsClauseOf, AreOver, IsVerdict};
@@ -15,21 +14,21 @@ use crate::lit_set::LitSet;
 use cnf_core::{Chain, Clause, Cnf, Lit, Log};
 use std::alloc::{AllocError, Global};
 
-/// What a log is found to be.
+/// What a log over a formula is found to be.
 #[derive(Clone, Copy, Debug, PartialEq, Eq)]
 pub enum Verdict {
     /// Each step of each chain resolves, and a clause of the formula or of a chain is empty, so the
     /// formula has no model.
     Refuted,
-    /// The chain of this number, from 0, is the first that names a clause not before it or has a
-    /// step that does not resolve.
+    /// The chain of this number, from 0, is the first that names a clause not before it or has a step that does not
+    /// resolve.
     BadStep(u64),
     /// Each step of each chain resolves, and no clause of the formula or of a chain is empty.
     NotEmpty,
 }
 
-/// Whether a log refutes a formula. A chain that does not resolve counts even where there is an
-/// empty clause before or after it. The only `Err` is want of memory.
+/// Whether a log refutes a formula. A chain that does not resolve counts even where there is an empty clause before or
+/// after it. The only error is out of memory.
 pub fn check_log(alloc: Global, cnf: &Cnf, log: &Log) -> Result<Verdict, AllocError>
     ensures verdict { IfOk result (IsVerdict cnf.now.clauses log.now.chains) }
     ensures only { IfOk result (λ v. (w : Verdict) → IsVerdict cnf.now.clauses log.now.chains w → w ≡ v) }
@@ -69,8 +68,8 @@ fn has_empty(clauses: &[Clause]) -> bool
     false
 }
 
-/// The clause of a chain over the clauses of the formula and those of the earlier chains, where it
-/// resolves. The set is empty before, and after a clause was found.
+/// The clause of a chain over the clauses of the formula and those of the earlier chains; none where it does not
+/// resolve. The set is empty before, and after a clause was found.
 pub(crate) fn derive(
     alloc: Global,
     so_far: &mut LitSet,
@@ -96,7 +95,7 @@ pub(crate) fn derive(
     Ok(Some(clause))
 }
 
-/// Takes the steps of a chain one after another. Whether each resolves.
+/// Takes the steps of a chain one after another, and returns whether each resolves.
 fn follow(
     so_far: &mut LitSet,
     clauses: &[Clause],
@@ -134,8 +133,8 @@ fn clause_at<'a>(clauses: &'a [Clause], earlier: &'a [Clause], number: usize) ->
     None
 }
 
-/// Resolves the clause so far with another on a literal, which has to stand in the clause so far,
-/// and its opposite in the other. Whether it could.
+/// Resolves the clause so far with another on a literal that the first contains and whose opposite the other contains,
+/// and returns whether they do.
 fn resolve(so_far: &mut LitSet, pivot: Lit, lits: &[Lit]) -> Result<bool, AllocError>
     requires { IsOver so_far.old.variables lits.now }
     ensures variables { so_far.new.variables ≡ so_far.old.variables }
@@ -143,16 +142,16 @@ fn resolve(so_far: &mut LitSet, pivot: Lit, lits: &[Lit]) -> Result<bool, AllocE
         Gives (resolvent c pivot lits.now) yes so_far.new.lits) }
 {
     let opposite = pivot.opposite();
-    if !stands_in(lits, opposite) || !so_far.remove(pivot) {
+    if !contains(lits, opposite) || !so_far.remove(pivot) {
         return Ok(false);
     }
     add_without(so_far, lits, opposite)?;
     Ok(true)
 }
 
-/// Whether a literal stands in a clause.
-fn stands_in(lits: &[Lit], lit: Lit) -> bool
-    ensures { result ≡ has lits.now lit }
+/// Whether a clause contains a literal.
+fn contains(lits: &[Lit], lit: Lit) -> bool
+    ensures { result ≡ contains lits.now lit }
 {
     for other in lits {
         if *other == lit {
@@ -162,7 +161,7 @@ fn stands_in(lits: &[Lit], lit: Lit) -> bool
     false
 }
 
-/// Puts the literals of a clause in.
+/// Adds the literals of a clause.
 fn add_all(so_far: &mut LitSet, lits: &[Lit]) -> Result<(), AllocError>
     requires { IsOver so_far.old.variables lits.now }
     ensures variables { so_far.new.variables ≡ so_far.old.variables }
@@ -174,7 +173,7 @@ fn add_all(so_far: &mut LitSet, lits: &[Lit]) -> Result<(), AllocError>
     Ok(())
 }
 
-/// Puts the literals of a clause in, but for one.
+/// Adds the literals of a clause but for one.
 fn add_without(so_far: &mut LitSet, lits: &[Lit], except: Lit) -> Result<(), AllocError>
     requires { IsOver so_far.old.variables lits.now }
     ensures variables { so_far.new.variables ≡ so_far.old.variables }

@@ -1,8 +1,8 @@
-//! A set of literals over so many variables, as marks beside the list of what was marked.
+//! A set of literals over n variables, as marks beside the list of what was marked: each marked literal is in the list.
 
 ghost use Rattle.std.specs.Prelude.{◌≡◌, ◌<◌, ◌&&◌, ◌||◌, ℕ, true, false, not, length, [], IfOk, OnOk};
 ghost use Rattle.cnf_core.specs.declared.clause.Lit.{Lit};
-ghost use Rattle.cnf_core.specs.Clause.{same_lit, has, AreSame, IsOver};
+ghost use Rattle.cnf_core.specs.Clause.{same_lit, contains, AreSame, IsOver};
 ghost use Rattle.proof_check.specs.Marks.{is_marked, KeepsMarks};
 ghost use Rattle.proof_check.specs.LitSet.{AreDistinct};
 
@@ -12,14 +12,14 @@ use collections::Seq;
 use std::alloc::{AllocError, Global};
 use std::marker::Model;
 
-/// A set of literals over so many variables. Contracts see it as their number and a clause, of
-/// which only counts what literals stand in it.
+/// A set of literals over n variables. Contracts see it as n and a clause, of which only counts what literals it
+/// contains.
 #[derive(Drop)]
 pub(crate) struct LitSet {
     variables: usize,
     marks: Marks,
-    /// Each marked literal stands here, so clearing costs what was added and not the number of
-    /// variables. A literal is added at most once more than it was removed.
+    /// Contains each marked literal, so clearing costs what was added and not the number of variables. A literal is
+    /// added at most once more than it was removed.
     added: Vec<Lit>,
 }
 
@@ -28,11 +28,11 @@ impl Model for LitSet {
 
     ghost Value = { Literals };
 
-    ghost use Rattle.proof_check.specs.LitSet.{literals_of, IsKept};
+    ghost use Rattle.proof_check.specs.LitSet.{literals_of, IsLitSet};
 
     ghost view = { λ s. literals_of s.variables s.marks s.added.items };
 
-    ghost invariant = { λ s. IsKept s.variables s.marks s.added.items };
+    ghost invariant = { λ s. IsLitSet s.variables s.marks s.added.items };
 }
 
 impl LitSet {
@@ -48,11 +48,12 @@ impl LitSet {
         })
     }
 
-    /// Puts a literal in.
+    /// Adds a literal.
     pub(crate) fn insert(&mut self, lit: Lit) -> Result<(), AllocError>
         requires { lit.variable < self.old.variables }
         ensures variables { self.new.variables ≡ self.old.variables }
-        ensures lits { OnOk result ((l : Lit) → has self.new.lits l ≡ (same_lit lit l || has self.old.lits l)) }
+        ensures lits { OnOk result ((l : Lit) →
+            contains self.new.lits l ≡ (same_lit lit l || contains self.old.lits l)) }
     {
         if self.marks.is_marked(lit) {
             return Ok(());
@@ -62,11 +63,11 @@ impl LitSet {
         Ok(())
     }
 
-    /// Takes a literal out. Whether it stood in the set.
+    /// Removes a literal, and returns whether the set contained it.
     pub(crate) fn remove(&mut self, lit: Lit) -> bool
         ensures variables { self.new.variables ≡ self.old.variables }
-        ensures stood { result ≡ has self.old.lits lit }
-        ensures lits { (l : Lit) → has self.new.lits l ≡ (not (same_lit lit l) && has self.old.lits l) }
+        ensures stood { result ≡ contains self.old.lits lit }
+        ensures lits { (l : Lit) → contains self.new.lits l ≡ (not (same_lit lit l) && contains self.old.lits l) }
     {
         if !self.marks.is_marked(lit) {
             return false;
@@ -90,14 +91,14 @@ impl LitSet {
     }
 }
 
-/// Takes the marks of these literals away, and adds each one that was marked to a list.
+/// Clears the marks of these literals, and adds each one that was marked to a list.
 fn unmark(marks: &mut Marks, added: &[Lit], lits: &mut Seq<Lit>) -> Result<(), AllocError>
     requires same { length marks.old.positive.items ≡ length marks.old.negative.items }
     requires empty { lits.old ≡ [] }
-    requires listed { (l : Lit) → is_marked marks.old l ≡ true → has added.now l ≡ true }
+    requires listed { (l : Lit) → is_marked marks.old l ≡ true → contains added.now l ≡ true }
     ensures kept { KeepsMarks marks.old marks.new }
     ensures distinct { AreDistinct lits.new }
-    ensures lits { OnOk result ((l : Lit) → has lits.new l ≡ is_marked marks.old l) }
+    ensures lits { OnOk result ((l : Lit) → contains lits.new l ≡ is_marked marks.old l) }
     ensures unmarked { OnOk result ((l : Lit) → is_marked marks.new l ≡ false) }
 {
     for lit in added {

@@ -1,4 +1,4 @@
-//! A mark for each literal over so many variables.
+//! A mark for each literal over n variables. No literal of another variable is ever marked.
 
 ghost use Rattle.std.specs.Prelude.{◌≡◌, ◌<◌, ℕ, length, false, if◌then◌else◌, IfOk};
 ghost use Rattle.cnf_core.specs.declared.clause.Lit.{Lit};
@@ -16,7 +16,7 @@ pub(crate) struct Marks {
 }
 
 impl Marks {
-    /// No mark yet.
+    /// Marks over n variables, with no literal marked.
     pub(crate) fn new(alloc: Global, variables: usize) -> Result<Marks, AllocError>
         ensures positive { IfOk result (λ marks. length marks.positive.items ≡ variables) }
         ensures negative { IfOk result (λ marks. length marks.negative.items ≡ variables) }
@@ -39,7 +39,7 @@ impl Marks {
         lit.variable < marks.len() && marks[lit.variable]
     }
 
-    /// Sets or takes away the literal's mark.
+    /// Sets or clears the literal's mark.
     pub(crate) fn set(&mut self, lit: Lit, marked: bool)
         requires positive { lit.variable < length self.old.positive.items }
         requires negative { lit.variable < length self.old.negative.items }

@@ -1,14 +1,12 @@
-//! Logs over small formulas, and their verdicts by hand.
-//!
-//! A literal is a number as in DIMACS files, and 0 ends a clause. A pair with 0 begins a chain with
-//! the clause of that number; any other pair is a step.
+//! Logs over formulas of x and y, and their verdicts by hand.
 
-use crate::{Verdict, are_units, check_log};
+use crate::{Verdict, are_new_clauses, check_log};
 use cnf_core::{Chain, Clause, Cnf, Lit, Log};
 use collections::Seq;
 use std::alloc::{AllocError, Global};
 use std::test::Fail;
 
+/// The literal of a number: a variable from 1, negative for its negation.
 fn lit(number: i32) -> Lit {
     Lit {
         variable: number.unsigned_abs().saturating_sub(1) as usize,
@@ -16,7 +14,7 @@ fn lit(number: i32) -> Lit {
     }
 }
 
-/// A formula over two variables.
+/// The formula over two variables of such numbers, in which 0 ends a clause.
 fn formula(alloc: Global, numbers: &[i32]) -> Result<Cnf, AllocError> {
     let mut cnf = Cnf::new(alloc, 2);
     let mut lits = Seq::new(alloc);
@@ -32,6 +30,7 @@ fn formula(alloc: Global, numbers: &[i32]) -> Result<Cnf, AllocError> {
     Ok(cnf)
 }
 
+/// The log of such pairs: one with 0 begins a chain with the clause of that number, and any other is a step.
 fn log(alloc: Global, pairs: &[(i32, usize)]) -> Result<Log, AllocError> {
     let mut chains: Vec<Chain> = Vec::new(alloc);
     for (pivot, number) in pairs {
@@ -49,115 +48,129 @@ fn log(alloc: Global, pairs: &[(i32, usize)]) -> Result<Log, AllocError> {
     })
 }
 
-fn verdict(alloc: Global, numbers: &[i32], pairs: &[(i32, usize)]) -> Result<Verdict, AllocError> {
-    let cnf = formula(alloc, numbers)?;
-    let log = log(alloc, pairs)?;
-    check_log(alloc, &cnf, &log)
-}
-
-/// Whether each chain says something new.
-fn units(alloc: Global, numbers: &[i32], pairs: &[(i32, usize)]) -> Result<bool, AllocError> {
-    let cnf = formula(alloc, numbers)?;
-    let log = log(alloc, pairs)?;
-    are_units(alloc, &cnf, &log)
-}
+/// A name, a formula, a log over it, and the verdict.
+const VERDICTS: [(&str, &[i32], &[(i32, usize)], Verdict); 17] = [
+    (
+        "a step",
+        &[1, 0, -1, 0],
+        &[(0, 0), (1, 1)],
+        Verdict::Refuted,
+    ),
+    (
+        "repeats",
+        &[1, 1, 0, -1, -1, 0],
+        &[(0, 0), (1, 1)],
+        Verdict::Refuted,
+    ),
+    ("no step", &[1, 0, -1, 0], &[(0, 0)], Verdict::NotEmpty),
+    (
+        "a tautology",
+        &[1, 0, 1, -1, 0, -1, 0],
+        &[(0, 0), (1, 1), (1, 2)],
+        Verdict::Refuted,
+    ),
+    (
+        "one sign is left",
+        &[1, -1, 0, -1, 0],
+        &[(0, 0), (1, 1)],
+        Verdict::NotEmpty,
+    ),
+    (
+        "two chains",
+        &[1, 2, 0, -1, 2, 0, -2, 0],
+        &[(0, 0), (1, 1), (0, 3), (2, 2)],
+        Verdict::Refuted,
+    ),
+    ("an empty clause", &[1, 0, 0], &[(0, 0)], Verdict::Refuted),
+    ("no clause", &[], &[], Verdict::NotEmpty),
+    (
+        "the same sign",
+        &[1, 0, -1, 0],
+        &[(0, 0), (1, 0)],
+        Verdict::BadStep(0),
+    ),
+    (
+        "only in the named clause",
+        &[1, 0, -2, 0],
+        &[(0, 0), (2, 1)],
+        Verdict::BadStep(0),
+    ),
+    (
+        "the pivot is gone",
+        &[1, 0, -1, 0],
+        &[(0, 0), (1, 1), (1, 1)],
+        Verdict::BadStep(0),
+    ),
+    (
+        "no such variable",
+        &[1, 0, -1, 0],
+        &[(0, 0), (i32::MAX, 1)],
+        Verdict::BadStep(0),
+    ),
+    (
+        "a chain over itself",
+        &[1, 0, -1, 0],
+        &[(0, 2)],
+        Verdict::BadStep(0),
+    ),
+    (
+        "a chain over a later one",
+        &[1, 0, -1, 0],
+        &[(0, 0), (1, 3), (0, 1)],
+        Verdict::BadStep(0),
+    ),
+    (
+        "no such clause",
+        &[1, 0, -1, 0],
+        &[(0, usize::MAX)],
+        Verdict::BadStep(0),
+    ),
+    (
+        "bad beside an empty clause",
+        &[0],
+        &[(0, 0), (1, 0)],
+        Verdict::BadStep(0),
+    ),
+    (
+        "bad after a refutation",
+        &[1, 0, -1, 0],
+        &[(0, 0), (1, 1), (0, 0), (1, 0)],
+        Verdict::BadStep(1),
+    ),
+];
 
 #[test]
-fn logs_that_resolve(rt: HostRuntime) -> Result<(), Fail> {
+fn verdicts_are_those_by_hand(rt: HostRuntime) -> Result<(), Fail> {
     let alloc = rt.alloc();
-    // One step, and the same with repeated literals.
-    let one = verdict(alloc, &[1, 0, -1, 0], &[(0, 0), (1, 1)])?;
-    assert_eq!(rt; one, Verdict::Refuted);
-    let repeats = verdict(alloc, &[1, 1, 0, -1, -1, 0], &[(0, 0), (1, 1)])?;
-    assert_eq!(rt; repeats, Verdict::Refuted);
-    // The chain's clause is {x}.
-    let no_step = verdict(alloc, &[1, 0, -1, 0], &[(0, 0)])?;
-    assert_eq!(rt; no_step, Verdict::NotEmpty);
-    // {x} with {x, not x} gives {x} again; {x, not x} with {not x} gives {not x}.
-    let both = verdict(alloc, &[1, 0, 1, -1, 0, -1, 0], &[(0, 0), (1, 1), (1, 2)])?;
-    assert_eq!(rt; both, Verdict::Refuted);
-    let rest = verdict(alloc, &[1, -1, 0, -1, 0], &[(0, 0), (1, 1)])?;
-    assert_eq!(rt; rest, Verdict::NotEmpty);
-    // A chain over an earlier one: {x, y} with {not x, y} gives {y}.
-    let clauses = &[1, 2, 0, -1, 2, 0, -2, 0];
-    let two = verdict(alloc, clauses, &[(0, 0), (1, 1), (0, 3), (2, 2)])?;
-    assert_eq!(rt; two, Verdict::Refuted);
+    for (name, numbers, pairs, wanted) in VERDICTS {
+        let cnf = formula(alloc, numbers)?;
+        let log = log(alloc, pairs)?;
+        assert_eq!(rt; check_log(alloc, &cnf, &log)?, wanted, "{name}");
+    }
     Ok(())
 }
 
-#[test]
-fn empty_clauses_and_logs(rt: HostRuntime) -> Result<(), Fail> {
-    let alloc = rt.alloc();
-    let alone = verdict(alloc, &[0], &[])?;
-    assert_eq!(rt; alone, Verdict::Refuted);
-    let among = verdict(alloc, &[1, 0, 0], &[(0, 0)])?;
-    assert_eq!(rt; among, Verdict::Refuted);
-    let nothing = verdict(alloc, &[], &[])?;
-    assert_eq!(rt; nothing, Verdict::NotEmpty);
-    Ok(())
-}
+/// A name, a log over the clauses {x, y}, {not x, y} and {x, not y}, and whether each of its chains says something new.
+const NEW: [(&str, &[(i32, usize)], bool); 6] = [
+    ("no chain", &[], true),
+    ("two chains", &[(0, 0), (1, 1), (0, 0), (2, 2)], true),
+    ("a clause of the formula", &[(0, 0)], false),
+    (
+        "a subsumed clause",
+        &[(0, 0), (1, 1), (0, 1), (-1, 0)],
+        false,
+    ),
+    ("a tautology", &[(0, 1), (2, 2)], false),
+    ("a bad step", &[(0, 0), (1, 2)], false),
+];
 
 #[test]
-fn steps_that_do_not_resolve(rt: HostRuntime) -> Result<(), Fail> {
+fn chains_are_new_as_by_hand(rt: HostRuntime) -> Result<(), Fail> {
     let alloc = rt.alloc();
-    let units = &[1, 0, -1, 0];
-    let same_sign = verdict(alloc, units, &[(0, 0), (1, 0)])?;
-    assert_eq!(rt; same_sign, Verdict::BadStep(0));
-    let named_alone = verdict(alloc, &[1, 0, -2, 0], &[(0, 0), (2, 1)])?;
-    assert_eq!(rt; named_alone, Verdict::BadStep(0));
-    let gone = verdict(alloc, units, &[(0, 0), (1, 1), (1, 1)])?;
-    assert_eq!(rt; gone, Verdict::BadStep(0));
-    let no_variable = verdict(alloc, units, &[(0, 0), (i32::MAX, 1)])?;
-    assert_eq!(rt; no_variable, Verdict::BadStep(0));
-    Ok(())
-}
-
-#[test]
-fn chains_that_name_no_earlier_clause(rt: HostRuntime) -> Result<(), Fail> {
-    let alloc = rt.alloc();
-    let units = &[1, 0, -1, 0];
-    let itself = verdict(alloc, units, &[(0, 2)])?;
-    assert_eq!(rt; itself, Verdict::BadStep(0));
-    let step_over_itself = verdict(alloc, units, &[(0, 0), (1, 2)])?;
-    assert_eq!(rt; step_over_itself, Verdict::BadStep(0));
-    let later = verdict(alloc, units, &[(0, 0), (1, 3), (0, 1)])?;
-    assert_eq!(rt; later, Verdict::BadStep(0));
-    let nowhere = verdict(alloc, units, &[(0, usize::MAX)])?;
-    assert_eq!(rt; nowhere, Verdict::BadStep(0));
-    Ok(())
-}
-
-#[test]
-fn a_bad_chain_counts_beside_an_empty_clause(rt: HostRuntime) -> Result<(), Fail> {
-    let alloc = rt.alloc();
-    let units = &[1, 0, -1, 0];
-    let in_formula = verdict(alloc, &[0], &[(0, 0), (1, 0)])?;
-    assert_eq!(rt; in_formula, Verdict::BadStep(0));
-    let before = verdict(alloc, units, &[(0, 0), (1, 0), (0, 0), (1, 1)])?;
-    assert_eq!(rt; before, Verdict::BadStep(0));
-    let pairs = &[(0, 0), (1, 1), (0, 0), (1, 0), (0, 0), (2, 1)];
-    let between = verdict(alloc, units, pairs)?;
-    assert_eq!(rt; between, Verdict::BadStep(1));
-    Ok(())
-}
-
-#[test]
-fn chains_that_say_something_new(rt: HostRuntime) -> Result<(), Fail> {
-    let alloc = rt.alloc();
-    let clauses = &[1, 2, 0, -1, 2, 0, -2, 1, 0];
-    let none = units(alloc, clauses, &[])?;
-    assert!(rt; none);
-    let two = units(alloc, clauses, &[(0, 0), (1, 1), (0, 0), (2, 2)])?;
-    assert!(rt; two);
-    // A clause of the formula, and one of an earlier chain once more.
-    let known = units(alloc, clauses, &[(0, 0)])?;
-    assert!(rt; !known);
-    let again = units(alloc, clauses, &[(0, 0), (1, 1), (0, 1), (-1, 0)])?;
-    assert!(rt; !again);
-    // {not x, y} with {not y, x} gives {not x, x}.
-    let both_signs = units(alloc, clauses, &[(0, 1), (2, 2)])?;
-    assert!(rt; !both_signs);
-    let bad = units(alloc, clauses, &[(0, 0), (1, 2)])?;
-    assert!(rt; !bad);
+    let cnf = formula(alloc, &[1, 2, 0, -1, 2, 0, -2, 1, 0])?;
+    for (name, pairs, wanted) in NEW {
+        let log = log(alloc, pairs)?;
+        assert_eq!(rt; are_new_clauses(alloc, &cnf, &log)?, wanted, "{name}");
+    }
     Ok(())
 }

@@ -1,6 +1,6 @@
-//! The program `solve_file`: it reads a formula from its standard input, and prints a model, or a log of
-//! resolution that refutes the formula, in lines `r` as `dimacs` reads them. Its first word, if it has
-//! one, is the number of conflicts after which it gives up.
+//! The program `solve_file`: it reads a formula from standard input, and prints a model, or a log of resolution that
+//! refutes the formula, in lines `r` as `dimacs` reads them. Its first word, if it has one, is the number of conflicts
+//! after which it gives up.
 #![tactic(auto)]
 
 use anyhow::Result;
@@ -9,7 +9,7 @@ use cnf_core::{Chain, Fuel};
 use std::io::{BufWriter, Write};
 use std::{env, io};
 
-/// The units of fuel: those that the first word names.
+/// The units of fuel: those that the first word names, and 2^40 where there is none.
 fn units(rt: &(impl env::Env + AllocGlobal)) -> Result<u64> {
     match env::args(rt)?.nth(1) {
         Some(word) => Ok(word.parse::<u64>()?),

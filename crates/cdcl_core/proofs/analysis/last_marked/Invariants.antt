@@ -1,5 +1,5 @@
 use Rattle.std.proofs.Common.{◌-◌, ◌≤◌}
-use Rattle.cdcl_core.specs.Learning.{AreUnmarked}
+use Rattle.cdcl_core.specs.Analysis.{AreUnmarked}
 use Rattle.cdcl_core.proofs.analysis.last_marked.Given as goal
 
 abbrev pub invariant-loop-place : goal.invariant-loop-place

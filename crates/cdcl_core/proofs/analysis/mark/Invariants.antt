@@ -1,5 +1,5 @@
 use Rattle.std.proofs.Common.{take}
-use Rattle.cdcl_core.specs.Learning.{IsMarked}
+use Rattle.cdcl_core.specs.Analysis.{IsMarked}
 use Rattle.cdcl_core.proofs.analysis.mark.Given as goal
 
 abbrev pub invariant-loop-lit : goal.invariant-loop-lit

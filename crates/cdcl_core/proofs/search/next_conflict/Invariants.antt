@@ -1,6 +1,6 @@
 use Rattle.std.proofs.Common.{◌≡◌, ◌-◌, length}
-use Rattle.cdcl_core.specs.Trail.{IsTrail, AreReasons, AreSettledBefore}
-use Rattle.cdcl_core.specs.Sweep.{AreHints}
+use Rattle.cdcl_core.specs.Trail.{IsTrail, AreReasons, ArePropagatedBefore}
+use Rattle.cdcl_core.specs.Propagation.{AreBlockers}
 use Rattle.cdcl_core.proofs.search.next_conflict.Given as goal
 
 abbrev pub invariant-loop-conflict : goal.invariant-loop-conflict
@@ -8,8 +8,8 @@ invariant-loop-conflict l =
     IsTrail l.trail
     × (l.trail.variables ≡ l.initial.trail.variables)
     × AreReasons l.clauses l.trail
-    × AreSettledBefore l.clauses l.trail
-    × AreHints l.clauses l.hints.items
+    × ArePropagatedBefore l.clauses l.trail
+    × AreBlockers l.clauses l.blockers.items
 
 abbrev pub decreases-loop-conflict : goal.decreases-loop-conflict
 decreases-loop-conflict l = l.trail.variables - length l.trail.lits

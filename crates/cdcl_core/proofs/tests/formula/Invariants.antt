@@ -1,5 +1,6 @@
 use Rattle.std.proofs.Common.{◌≡◌}
+use Rattle.cnf_core.specs.Clause.{IsOver}
 use Rattle.cdcl_core.proofs.tests.formula.Given as goal
 
-abbrev pub invariant-loop-row : goal.invariant-loop-row
-invariant-loop-row l = l.cnf.variables ≡ l.variables
+abbrev pub invariant-loop-number : goal.invariant-loop-number
+invariant-loop-number l = (l.cnf.variables ≡ l.variables) × IsOver l.variables l.lits

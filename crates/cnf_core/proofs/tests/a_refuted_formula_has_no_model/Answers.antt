@@ -6,9 +6,9 @@ use Rattle.std.proofs.lemmas.List.Elements.{All-nil, All-cons}
 use Rattle.cnf_core.specs.declared.clause.Lit.{Lit}
 use Rattle.cnf_core.specs.declared.clause.Clause.{Clause}
 use Rattle.cnf_core.specs.declared.log.Chain.{Chain}
-use Rattle.cnf_core.specs.Clause.{IsWithin}
-use Rattle.cnf_core.specs.Resolution.{clause, IsAccepted, IsUnit, AreUnits}
-use Rattle.cnf_core.proofs.Sets.{has-head}
+use Rattle.cnf_core.specs.Clause.{IsSubset}
+use Rattle.cnf_core.specs.Resolution.{clause, IsAccepted, IsNewClause, AreNewClauses}
+use Rattle.cnf_core.proofs.Sets.{contains-head}
 use Rattle.cnf_core.proofs.tests.a_refuted_formula_has_no_model.Goals as goal
 
 abbrev literal : Bool → Lit
@@ -23,18 +23,20 @@ chains = (record { first = 0; steps = (literal true, 1) ∷ [] }) ∷ []
 accepted : IsAccepted both chains
 accepted = (clause (literal true ∷ []) ∷ clause (literal false ∷ []) ∷ clause [] ∷ [], refl, (2, omega arith, refl))
 
-not_within : (l : Lit) → IsWithin (l ∷ []) [] → ⊥
-not_within l within = false≢true (within l (has-head l []))
+not_subset : (l : Lit) → IsSubset (l ∷ []) [] → ⊥
+not_subset l within = false≢true (within l (contains-head l []))
 
-units : AreUnits both chains
-units = ([], refl, new, tt)
+new_clauses : AreNewClauses both chains
+new_clauses = ([], refl, new, tt)
   where
-    new : IsUnit both []
+    new : IsNewClause both []
     new = record {
-      proper = λ l stands. absurd (false≢true stands);
-      new =
-          All-cons (λ d. IsWithin d.lits [] → ⊥) (clause (literal true ∷ [])) (clause (literal false ∷ []) ∷ []) (not_within (literal true))
-          (All-cons (λ d. IsWithin d.lits [] → ⊥) (clause (literal false ∷ [])) [] (not_within (literal false)) (All-nil (λ d. IsWithin d.lits [] → ⊥)));
+      not_tautology = λ l stands. absurd (false≢true stands);
+      not_subsumed =
+          All-cons (λ d. IsSubset d.lits [] → ⊥) (clause (literal true ∷ [])) (clause (literal false ∷ []) ∷ [])
+          (not_subset (literal true))
+          (All-cons (λ d. IsSubset d.lits [] → ⊥) (clause (literal false ∷ [])) [] (not_subset (literal false))
+          (All-nil (λ d. IsSubset d.lits [] → ⊥)));
     }
 
 pub no_model-requires : goal.no_model-requires
@@ -43,8 +45,9 @@ no_model-requires g c =
     let log : c.from_vec-chains.result ≡ chains = grind (arith, common_steps) in
     subst (λ cs. IsAccepted cs c.from_vec-chains.result) (sym formula) (subst (IsAccepted both) (sym log) accepted)
 
-pub few_units-requires : goal.few_units-requires
-few_units-requires g c =
+pub new_clauses_bound-requires : goal.new_clauses_bound-requires
+new_clauses_bound-requires g c =
     let formula : c.push-2.new.self.clauses ≡ both = grind (arith, common_steps) in
     let log : c.from_vec-chains.result ≡ chains = grind (arith, common_steps) in
-    subst (λ cs. AreUnits cs c.from_vec-chains.result) (sym formula) (subst (AreUnits both) (sym log) units)
+    subst (λ cs. AreNewClauses cs c.from_vec-chains.result) (sym formula)
+    (subst (AreNewClauses both) (sym log) new_clauses)

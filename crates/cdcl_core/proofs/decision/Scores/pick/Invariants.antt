@@ -1,4 +1,4 @@
-use Rattle.cdcl_core.proofs.Picks.{IsBest}
+use Rattle.cdcl_core.proofs.DecisionLemmas.{IsBest}
 use Rattle.cdcl_core.proofs.decision.Scores.pick.Given as goal
 
 abbrev pub invariant-loop-variable : goal.invariant-loop-variable

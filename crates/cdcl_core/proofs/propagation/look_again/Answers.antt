@@ -1,5 +1,0 @@
-use Rattle.cnf_core.proofs.Over.{over-at}
-use Rattle.cdcl_core.proofs.propagation.look_again.Goals as goal
-
-pub is_true-requires : goal.is_true-requires
-is_true-requires c = over-at c.args.trail.now.variables c.args.clause.now.lits c.args.hint c.requires.over c.requires.hint

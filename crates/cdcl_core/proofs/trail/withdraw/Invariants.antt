@@ -1,8 +1,0 @@
-use Rattle.std.proofs.Common.{◌<◌, ◌≤◌, length, get_or}
-use Rattle.cdcl_core.proofs.trail.withdraw.Given as goal
-
-abbrev pub invariant-loop-count : goal.invariant-loop-count
-invariant-loop-count l = record { within : l.count < length l.starts.items; later : l.keep ≤ get_or l.starts.items l.count 0 }
-
-abbrev pub decreases-loop-count : goal.decreases-loop-count
-decreases-loop-count l = l.count
