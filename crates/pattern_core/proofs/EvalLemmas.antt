@@ -92,7 +92,7 @@ node-sorted f g nodes k inputs outs n o h fit there =
     (HaveSorts-append fit.operation.args (map (λ w. sort.Bits w) fit.operation.attrs) (map (source_value inputs outs) n.args) (attr_values fit.operation.attrs n.attrs)
     (sources-sorted f g nodes k inputs outs h n.args fit.operation.args fit.args) (attributes-sorted fit.operation.attrs n.attrs fit.attrs))
 
-mapped_at : {A B : Type 0} (F : A → B) (xs : List A) (r : ℕ) (u : B) → slice_get (map F xs) r ≡ Some u → (x : A) × (slice_get xs r ≡ Some x) × (F x ≡ u)
+pub mapped_at : {A B : Type 0} (F : A → B) (xs : List A) (r : ℕ) (u : B) → slice_get (map F xs) r ≡ Some u → (x : A) × (slice_get xs r ≡ Some x) × (F x ≡ u)
 mapped_at F [] r u e = absurd (cc)
 mapped_at F (x ∷ xs) zero u e = (x, refl, same_Some (F x) u e)
 mapped_at F (x ∷ xs) (suc r) u e = mapped_at F xs r u e

@@ -3,3 +3,4 @@ pub mod WalkLemmas
 pub mod SoundLemmas
 pub mod FitLemmas
 pub mod EvalLemmas
+pub mod TotalLemmas

@@ -7,7 +7,7 @@ mod pattern;
 mod walk;
 mod well_formed;
 
-pub use comparison::order;
+pub use comparison::{order, order_is_total};
 pub use meaning::{eval, eval_goal};
 pub use pattern::{GoalAnswer, Node, Pattern, Src};
 pub use walk::is_canonical;
