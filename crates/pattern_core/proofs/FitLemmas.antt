@@ -19,7 +19,7 @@ use Rattle.pattern_core.specs.declared.pattern.Src.{Src}
 use Rattle.pattern_core.specs.declared.pattern.Src.TheVariants.{Out}
 use Rattle.pattern_core.specs.declared.pattern.Node.{Node}
 use Rattle.pattern_core.specs.declared.pattern.Pattern.{Pattern}
-use Rattle.pattern_core.specs.Pattern.{operation_sort, source_sort, Pairwise, IsFitting, IsOf, IsAmong, IsNamed, IsWellFormed, args_of}
+use Rattle.pattern_core.specs.Pattern.{operation_sort, source_sort, Pairwise, IsFitting, IsOf, IsAmong, IsUsed, IsWellFormed, args_of}
 use Rattle.pattern_core.proofs.SoundLemmas.{operation_is, goal_is}
 
 -- ---- a test's answer
@@ -134,9 +134,9 @@ none_in node r [] all j h = omega (arith, h.1)
 none_in node r (n ∷ ns) all zero h = All-head (λ (n : Node). IsAmong node n.args → ⊥) n ns all (r, h)
 none_in node r (n ∷ ns) all (suc j) h = none_in node r ns (All-tail (λ (n : Node). IsAmong node n.args → ⊥) n ns all) j h
 
-pub named-answer : (p : Pattern) (node : ℕ) (nodes : List Node) (xs : List Src) (i : ℕ) (b : Bool) → nodes ≡ p.nodes → xs ≡ p.results → length nodes ≤ i → All (λ (n : Node). IsAmong node n.args → ⊥) (take i nodes)
-    → (b ≡ true) ↔ IsAmong node xs → (b ≡ true) ↔ IsNamed p node
-named-answer p node nodes xs i b e f l all iff =
+pub used-answer : (p : Pattern) (node : ℕ) (nodes : List Node) (xs : List Src) (i : ℕ) (b : Bool) → nodes ≡ p.nodes → xs ≡ p.results → length nodes ≤ i → All (λ (n : Node). IsAmong node n.args → ⊥) (take i nodes)
+    → (b ≡ true) ↔ IsAmong node xs → (b ≡ true) ↔ IsUsed p node
+used-answer p node nodes xs i b e f l all iff =
     let whole : All (λ (n : Node). IsAmong node n.args → ⊥) p.nodes = subst (All (λ (n : Node). IsAmong node n.args → ⊥)) (take_all i nodes l ∙ e) all in (
       λ yes. let a = iff.0 yes in (a.0, inl (subst (λ ys. Contains ys (Out node a.0)) f a.1)),
       λ h. elim h.1 [

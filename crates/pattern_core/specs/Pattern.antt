@@ -2,6 +2,7 @@
 -- Patterns as programs over components: Gulwani, Jha, Tiwari, Venkatesan, PLDI 2011; rules: Buchwald, Fried, Hack, CGO 2018.
 use Rattle.std.specs.Prelude.{◌≡◌, ℕ, ◌^◌, ◌<◌, ◌≤◌, List, [], ◌∷◌, ◌++◌, length, map, Option, Some, None, slice_get, unwrap_or, false, Contains, nat_lt, option_and_then, ◌⊎◌, if◌then◌else◌}
 use Rattle.bv_terms.specs.declared.value.Sort.{Sort}
+use Rattle.bv_terms.specs.declared.value.Sort.TheVariants as sort
 use Rattle.bv_terms.specs.declared.value.Value.{Value}
 use Rattle.bv_terms.specs.declared.value.Value.TheVariants as val
 use Rattle.bv_terms.specs.Term.{value}
@@ -39,9 +40,16 @@ pattern_results f p inputs = map (source_value inputs (outs_from f inputs [] p.n
 abbrev pub goal_results : Goal → List Value → List Value
 goal_results g inputs = map (value inputs) g.results
 
+-- No argument and no result of the goal is a memory. Nothing is claimed of any other goal: a memory has no values yet, so
+-- each pattern would give the results of a goal that takes one, on all of its inputs.
+pub record HasNoMemory (g : Goal) : Type 0 where
+  pub args : ¬ Contains g.args sort.Mem
+  pub results : ¬ Contains (map sort_of g.results) (Some sort.Mem)
+
 -- the pattern gives the goal's results on every input
-abbrev pub IsRule : File → Goal → Pattern → Type 0
-IsRule f g p = (inputs : List Value) → HaveSorts g.args inputs → pattern_results f p inputs ≡ goal_results g inputs
+pub record IsRule (f : File) (g : Goal) (p : Pattern) : Type 0 where
+  pub no_memory : HasNoMemory g
+  pub same : (inputs : List Value) → HaveSorts g.args inputs → pattern_results f p inputs ≡ goal_results g inputs
 
 -- the sort of an operation's result, where it has it
 abbrev pub operation_sort : Option Operation → ℕ → Option Sort
@@ -85,13 +93,14 @@ IsOf k s = (result : ℕ) × (s ≡ Out k result)
 abbrev pub IsAmong : ℕ → List Src → Type 0
 IsAmong k sources = (result : ℕ) × Contains sources (Out k result)
 
--- a later node or a result names node k
-abbrev pub IsNamed : Pattern → ℕ → Type 0
-IsNamed p k = (result : ℕ) × (Contains p.results (Out k result) ⊎ ((j : ℕ) × Contains (args_of (slice_get p.nodes j)) (Out k result)))
+-- a later node or a result uses node k
+abbrev pub IsUsed : Pattern → ℕ → Type 0
+IsUsed p k =
+    (result : ℕ) × (Contains p.results (Out k result) ⊎ ((j : ℕ) × Contains (args_of (slice_get p.nodes j)) (Out k result)))
 
 -- what is a pattern for a goal
 pub record IsWellFormed (f : File) (g : Goal) (p : Pattern) : Type 0 where
   pub size : length p.nodes ≤ 6
   pub nodes : AreFitting f g p.nodes
   pub results : map (source_sort f g p.nodes (length p.nodes)) p.results ≡ map sort_of g.results
-  pub named : (k : ℕ) → k < length p.nodes → IsNamed p k
+  pub used : (k : ℕ) → k < length p.nodes → IsUsed p k

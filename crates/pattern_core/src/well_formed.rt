@@ -6,7 +6,7 @@ ghost use Rattle.bv_terms.specs.Sorts.{same_sort, sort_of};
 ghost use Rattle.pattern_core.specs.declared.pattern.Node.{Node};
 ghost use Rattle.isel_spec.specs.File.{Goal};
 ghost use Rattle.isel_spec.specs.Spec.{file};
-ghost use Rattle.pattern_core.specs.Pattern.{operation_sort, source_sort, Pairwise, IsFitting, AreFitting, IsOf, IsAmong, IsNamed, IsWellFormed};
+ghost use Rattle.pattern_core.specs.Pattern.{operation_sort, source_sort, Pairwise, IsFitting, AreFitting, IsOf, IsAmong, IsUsed, IsWellFormed};
 
 use crate::pattern::{Node, Pattern, Src};
 use bv_terms::Sort;
@@ -228,9 +228,9 @@ fn is_among(sources: &[Src], node: usize) -> bool
     false
 }
 
-/// Whether a node or a result of the pattern names the node.
-fn is_named(pattern: &Pattern, node: usize) -> bool
-    ensures { IsTrue result ↔ IsNamed pattern.now node }
+/// Whether a node or a result of the pattern uses the node.
+fn is_used(pattern: &Pattern, node: usize) -> bool
+    ensures { IsTrue result ↔ IsUsed pattern.now node }
 {
     for other in pattern.nodes.as_slice() {
         if is_among(other.args.as_slice(), node) {
@@ -240,12 +240,12 @@ fn is_named(pattern: &Pattern, node: usize) -> bool
     is_among(pattern.results.as_slice(), node)
 }
 
-/// Whether each node of the pattern is named.
-fn are_named(pattern: &Pattern) -> bool
-    ensures { IsTrue result ↔ ((k : ℕ) → k < length pattern.now.nodes → IsNamed pattern.now k) }
+/// Whether each node of the pattern is used.
+fn are_used(pattern: &Pattern) -> bool
+    ensures { IsTrue result ↔ ((k : ℕ) → k < length pattern.now.nodes → IsUsed pattern.now k) }
 {
     for node in 0..pattern.nodes.len() {
-        if !is_named(pattern, node) {
+        if !is_used(pattern, node) {
             return false;
         }
     }
@@ -254,8 +254,8 @@ fn are_named(pattern: &Pattern) -> bool
 
 /// Whether the pattern is well-formed for the goal in that place of the file: it has at most six
 /// nodes, its operations are in the file, each attribute is below 2^width, each argument and each
-/// result has a source of its sort, an input or an earlier node, and each node is named by another
-/// or by a result. It takes no memory.
+/// result has a source of its sort, an input or an earlier node, and each node is used by another or
+/// by a result. It takes no memory.
 pub fn is_well_formed(spec: &Spec, goal: u32, pattern: &Pattern) -> bool
     requires { goal < length spec.now.goals }
     ensures { (g : Goal) → slice_get (file spec.now).goals goal ≡ Some g → (IsTrue result ↔ IsWellFormed (file spec.now) g pattern.now) }
@@ -265,5 +265,5 @@ pub fn is_well_formed(spec: &Spec, goal: u32, pattern: &Pattern) -> bool
         return false;
     }
     let results = pattern.results.as_slice();
-    have_result_sorts(spec, goal, nodes, results) && are_named(pattern)
+    have_result_sorts(spec, goal, nodes, results) && are_used(pattern)
 }

@@ -10,7 +10,7 @@ use Rattle.pattern_core.specs.declared.pattern.Src.{Src}
 use Rattle.pattern_core.specs.declared.pattern.Src.TheVariants.{Input, Out}
 use Rattle.pattern_core.specs.declared.pattern.Node.{Node}
 use Rattle.pattern_core.specs.declared.pattern.Pattern.{Pattern}
-use Rattle.pattern_core.specs.Pattern.{source_sort, operation_sort, Pairwise, IsFitting, IsNamed, IsWellFormed, args_of}
+use Rattle.pattern_core.specs.Pattern.{source_sort, operation_sort, Pairwise, IsFitting, IsUsed, IsWellFormed, args_of}
 use Rattle.pattern_core.specs.Walk.{walk, IsCanonical}
 use Rattle.plain_search.specs.Enumeration.{IsPlain}
 use Rattle.plain_search.specs.Candidates.{input_pattern, operation_pattern}
@@ -39,7 +39,7 @@ IsWellFormed-input f g t s k one sorted there = record {
   size = omega arith;
   nodes = λ j n e. cc;
   results = (λ i. (there ∙ sym sorted) i ∷ []) ∙ ap (map sort_of) (sym one);
-  named = λ j l. absurd (omega arith);
+  used = λ j l. absurd (omega arith);
 }
 
 -- a list of one source, by its sort
@@ -99,7 +99,7 @@ IsWellFormed-operation f g t s op o ks one sorted u fit = record {
   size = omega arith;
   nodes = λ j n e. node j n e;
   results = (λ i. (operation_result f g s op o n0 u refl ∙ sym sorted) i ∷ []) ∙ ap (map sort_of) (sym one);
-  named = λ j l. named j l;
+  used = λ j l. used j l;
 }
   where
     n0 : Node
@@ -118,8 +118,8 @@ IsWellFormed-operation f g t s op o ks one sorted u fit = record {
         let r = first_of_one n0 n j e in
         subst (λ i. IsFitting f g (n0 ∷ []) i n) (sym r.0) (subst (IsFitting f g (n0 ∷ []) 0) r.1 fitting)
 
-    named : (j : ℕ) → j < 1 → IsNamed (operation_pattern op ks) j
-    named j l = (0, inl (0, omega arith, ap (λ k. Out k 0) (omega arith)))
+    used : (j : ℕ) → j < 1 → IsUsed (operation_pattern op ks) j
+    used j l = (0, inl (0, omega arith, ap (λ k. Out k 0) (omega arith)))
 
 -- the sources of a first node's arguments are inputs
 abbrev AreInputs : List Src → List ℕ → Type 0
@@ -161,9 +161,9 @@ no_output_in : (n : Node) (ks : List ℕ) (j node result : ℕ) → AreInputs n.
 no_output_in n ks zero node result e i = no_output_among ks node result (subst (λ xs. In xs (Out node result)) (sym e) i)
 no_output_in n ks (suc j) node result e i = absurd i
 
--- the source that names the only node is one of its results
-named_by_result : (n : Node) (ks : List ℕ) (r : Src) (p : Pattern) → AreInputs n.args ks → p.nodes ≡ n ∷ [] → p.results ≡ r ∷ [] → IsNamed p 0 → (result : ℕ) × (r ≡ Out 0 result)
-named_by_result n ks r p e nodes results h =
+-- the source that uses the only node is one of its results
+used_by_result : (n : Node) (ks : List ℕ) (r : Src) (p : Pattern) → AreInputs n.args ks → p.nodes ≡ n ∷ [] → p.results ≡ r ∷ [] → IsUsed p 0 → (result : ℕ) × (r ≡ Out 0 result)
+used_by_result n ks r p e nodes results h =
     elim h.1 [
       | inl a ↦ (let i = subst (λ xs. In xs (Out 0 h.0)) results (In-from_Contains p.results (Out 0 h.0) a) in (h.0, elim i [ inl q ↦ q | inr q ↦ absurd q ]))
       | inr b ↦ absurd (no_output_in n ks b.0 0 h.0 e (subst (λ ns. In (args_of (slice_get ns b.0)) (Out 0 h.0)) nodes (In-from_Contains (args_of (slice_get p.nodes b.0)) (Out 0 h.0) b.1)))
@@ -185,7 +185,7 @@ IsOverInputs-from_well_formed f g t s p n plain one sorted wf nodes =
     let fit : Fit g.args o.args ks = sym (fits_over_inputs f g p.nodes ks) ∙ ap (map (source_sort f g p.nodes 0)) inputs.1 ∙ fitting.args in
     let bare : n.attrs ≡ [] = no_attributes _ o.attrs n.attrs known.attrs fitting.attrs in
     let r = results_of f g t s p one sorted wf in
-    let out = named_by_result n ks r.0 p inputs.1 nodes r.1 (wf.named 0 (subst (λ ns. 0 < length ns) (sym nodes) (omega arith))) in
+    let out = used_by_result n ks r.0 p inputs.1 nodes r.1 (wf.used 0 (subst (λ ns. 0 < length ns) (sym nodes) (omega arith))) in
     let sort_is : source_sort f g (n ∷ []) 1 (Out 0 out.0) ≡ Some s = (λ i. source_sort f g (sym nodes i) (length (sym nodes i)) (sym out.1 i)) ∙ r.2 in
     let at : option_and_then sort_of (slice_get o.results out.0) ≡ Some s = ap (λ x. operation_sort x out.0) (sym fitting.in_file) ∙ sort_is in
     let zeroth = result_zero o.results only.0 s out.0 only.1 at in

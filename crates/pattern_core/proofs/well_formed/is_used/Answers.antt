@@ -1,9 +1,9 @@
 use Rattle.std.proofs.Common.{get_or, sym, ap, ◌∙◌, subst}
 use Rattle.pattern_core.specs.declared.pattern.Node.{Node}
 use Rattle.pattern_core.specs.Pattern.{IsAmong}
-use Rattle.pattern_core.proofs.FitLemmas.{never, named-answer}
+use Rattle.pattern_core.proofs.FitLemmas.{never, used-answer}
 use Rattle.std.proofs.lemmas.List.Elements.{All-more}
-use Rattle.pattern_core.proofs.well_formed.is_named.Goals as goal
+use Rattle.pattern_core.proofs.well_formed.is_used.Goals as goal
 
 pub loop-other-preserved : goal.loop-other-preserved
 loop-other-preserved c =
@@ -15,4 +15,4 @@ loop-other-preserved c =
 
 pub returns : goal.returns
 returns c =
-    named-answer c.args.pattern.now c.args.node c.as_slice-other-items.result.now c.as_slice-2.result.now c.loop-other.other-index c.is_among-2.result c.as_slice-other-items.ensures c.as_slice-2.ensures c.loop-other-test.false c.loop-other.invariant c.is_among-2.ensures
+    used-answer c.args.pattern.now c.args.node c.as_slice-other-items.result.now c.as_slice-2.result.now c.loop-other.other-index c.is_among-2.result c.as_slice-other-items.ensures c.as_slice-2.ensures c.loop-other-test.false c.loop-other.invariant c.is_among-2.ensures
