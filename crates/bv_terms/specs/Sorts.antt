@@ -47,6 +47,12 @@ same_sort (sort.Bits v) (sort.Bits w) = v == w
 same_sort sort.Mem sort.Mem = true
 same_sort _ _ = false
 
+-- how many bits a value of the sort has; a memory is no number of bits
+abbrev pub width_of : Sort → ℕ
+width_of sort.Bool = 1
+width_of (sort.Bits w) = w
+width_of sort.Mem = 0
+
 -- the first argument whose sort does not fit: the arguments are bit-vectors, of the first one's width
 abbrev pub misfit : List Sort → Option ℕ
 misfit [] = None

@@ -10,6 +10,28 @@ pub enum Sort {
     Mem,
 }
 
+impl Sort {
+    ghost use Rattle.bv_terms.specs.Sorts.{same_sort, width_of};
+
+    /// How many bits a value of the sort has: 0 for a memory, which is no number of bits.
+    pub fn width(self) -> u8
+        ensures { result ≡ width_of self }
+    {
+        match self {
+            Sort::Bool => 1,
+            Sort::Bits(width) => width,
+            Sort::Mem => 0,
+        }
+    }
+
+    /// Whether the sorts are the same, widths included.
+    pub fn is_same(self, other: Sort) -> bool
+        ensures { result ≡ same_sort self other }
+    {
+        self == other
+    }
+}
+
 /// A truth value, or a bit-vector by its width in bits and the number that it stands for.
 #[derive(Clone, Copy, Debug, PartialEq, Eq, Hash)]
 pub enum Value {

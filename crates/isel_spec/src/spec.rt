@@ -1,4 +1,7 @@
-ghost use Rattle.std.specs.Prelude.{IsTrue};
+//! A file that was read. A `Spec` keeps the limits of a file and has results of its definitions'
+//! inputs alone, so that each of them can be evaluated.
+
+ghost use Rattle.std.specs.Prelude.{◌≡◌, ℕ, ◌<◌, List, length, Some, slice_get, IsTrue};
 ghost use Rattle.isel_spec.specs.File.{is_sound};
 
 use crate::definitions::{GoalDef, OpDef};
@@ -15,4 +18,24 @@ pub struct Spec {
     pub ops: NameMap<OpDef>,
     pub goals: NameMap<GoalDef>,
     ghost sound: { IsTrue (is_sound pointer terms ops goals) },
+}
+
+impl Spec {
+    /// The goal of that number, counted from 0 in the order of the file.
+    pub fn goal(&self, number: u32) -> &GoalDef
+        requires { number < length self.now.goals }
+        ensures { (name : List ℕ) × (slice_get self.now.goals number ≡ Some (name, result.now)) }
+    {
+        let (_, definition) = self.goals.get(number as usize).unwrap();
+        definition
+    }
+
+    /// The operation of that number, counted from 0 in the order of the file.
+    pub fn op(&self, number: usize) -> &OpDef
+        requires { number < length self.now.ops }
+        ensures { (name : List ℕ) × (slice_get self.now.ops number ≡ Some (name, result.now)) }
+    {
+        let (_, definition) = self.ops.get(number).unwrap();
+        definition
+    }
 }
