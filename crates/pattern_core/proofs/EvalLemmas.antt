@@ -24,7 +24,7 @@ use Rattle.pattern_core.specs.declared.pattern.Src.TheVariants.{Input, Out}
 use Rattle.pattern_core.specs.declared.pattern.Node.{Node}
 use Rattle.pattern_core.specs.Pattern.{source_value, attr_values, op_results, outs_from, operation_sort, source_sort, Pairwise, IsFitting, AreFitting}
 use Rattle.pattern_core.specs.Meaning.{IsNodeGiven}
-use Rattle.pattern_core.proofs.SoundLemmas.{operation_is, CanEval, CanEval-op}
+use Rattle.isel_spec.proofs.SpecLemmas.{operation_is, CanEval, CanEval-op}
 
 -- ---- attributes
 

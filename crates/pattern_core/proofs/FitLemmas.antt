@@ -20,7 +20,7 @@ use Rattle.pattern_core.specs.declared.pattern.Src.TheVariants.{Out}
 use Rattle.pattern_core.specs.declared.pattern.Node.{Node}
 use Rattle.pattern_core.specs.declared.pattern.Pattern.{Pattern}
 use Rattle.pattern_core.specs.Pattern.{operation_sort, source_sort, Pairwise, IsFitting, IsOf, IsAmong, IsUsed, IsWellFormed, args_of}
-use Rattle.pattern_core.proofs.SoundLemmas.{operation_is, goal_is}
+use Rattle.isel_spec.proofs.SpecLemmas.{operation_is, goal_is}
 
 -- ---- a test's answer
 

@@ -11,7 +11,6 @@ ghost use Rattle.pattern_core.specs.Pattern.{source_value, attr_values, op_resul
 ghost use Rattle.pattern_core.specs.Meaning.{IsNodeGiven};
 
 use crate::pattern::{Node, Pattern, Src};
-use crate::well_formed::{goal_at, operation_at};
 use bv_terms::{Env, TermId, Terms, Value};
 use isel_spec::{OpDef, Spec};
 use collections::Seq;
@@ -49,7 +48,7 @@ pub fn eval_goal(
     ensures { IfOk result (λ v. (g : Goal) → slice_get (file spec.now).goals goal ≡ Some g → v.items ≡ goal_results g inputs.now) }
 {
     let mut room = vec![in alloc; Value::Bool(false); spec.terms.len()]?;
-    let definition = goal_at(spec, goal);
+    let definition = spec.goal(goal);
     let env = Env {
         values: Seq::from_vec(Vec::from_slice(alloc, inputs)?),
     };
@@ -146,7 +145,7 @@ fn node_results(
     requires room { length spec.now.terms.nodes ≤ length room.old }
     ensures { IfOk result (λ v. v.items ≡ op_results (slice_get (file spec.now).ops node.now.op) node.now.attrs (map (source_value inputs.now outs.now) node.now.args)) }
 {
-    let operation = operation_at(spec, usize::from(node.op));
+    let operation = spec.op(usize::from(node.op));
     let env = node_inputs(alloc, operation, node, inputs, outs)?;
     let results = operation.results.as_slice();
     values_of(alloc, &spec.terms, results, &env, room)

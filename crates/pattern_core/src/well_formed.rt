@@ -2,7 +2,7 @@
 
 ghost use Rattle.std.specs.Prelude.{◌≡◌, ◌↔◌, ℕ, ◌<◌, ◌≤◌, ◌^◌, List, length, map, Some, slice_get, IsTrue};
 ghost use Rattle.bv_terms.specs.declared.value.Sort.{Sort};
-ghost use Rattle.bv_terms.specs.Sorts.{same_sort, sort_of};
+ghost use Rattle.bv_terms.specs.Sorts.{sort_of};
 ghost use Rattle.pattern_core.specs.declared.pattern.Node.{Node};
 ghost use Rattle.isel_spec.specs.File.{Goal};
 ghost use Rattle.isel_spec.specs.Spec.{file};
@@ -10,32 +10,7 @@ ghost use Rattle.pattern_core.specs.Pattern.{operation_sort, source_sort, Pairwi
 
 use crate::pattern::{Node, Pattern, Src};
 use bv_terms::Sort;
-use isel_spec::{GoalDef, OpDef, Spec};
-
-/// The goal in a place.
-pub(crate) fn goal_at(spec: &Spec, place: u32) -> &GoalDef
-    requires { place < length spec.now.goals }
-    ensures { (name : List ℕ) × (slice_get spec.now.goals place ≡ Some (name, result.now)) }
-{
-    let (_, definition) = spec.goals.get(place as usize).unwrap();
-    definition
-}
-
-/// The operation in a place.
-pub(crate) fn operation_at(spec: &Spec, place: usize) -> &OpDef
-    requires { place < length spec.now.ops }
-    ensures { (name : List ℕ) × (slice_get spec.now.ops place ≡ Some (name, result.now)) }
-{
-    let (_, definition) = spec.ops.get(place).unwrap();
-    definition
-}
-
-/// Whether two sorts are equal, widths included.
-fn is_same(left: Sort, right: Sort) -> bool
-    ensures { result ≡ same_sort left right }
-{
-    left == right
-}
+use isel_spec::Spec;
 
 /// Whether there is a sort, namely this one.
 fn has_sort(found: Option<Sort>, sort: Sort) -> bool
@@ -44,7 +19,7 @@ fn has_sort(found: Option<Sort>, sort: Sort) -> bool
     let Some(other) = found else {
         return false;
     };
-    is_same(other, sort)
+    other.is_same(sort)
 }
 
 /// The sort of a result of an operation, where the file has the operation and it has the result.
@@ -55,7 +30,7 @@ fn operation_sort(spec: &Spec, op: u16, place: u8) -> Option<Sort>
     if op >= spec.ops.len() {
         return None;
     }
-    let results = operation_at(spec, op).results.as_slice();
+    let results = spec.op(op).results.as_slice();
     let place = usize::from(place);
     if place >= results.len() {
         return None;
@@ -68,7 +43,7 @@ fn input_sort(spec: &Spec, goal: u32, input: u8) -> Option<Sort>
     requires { goal < length spec.now.goals }
     ensures { (g : Goal) → slice_get (file spec.now).goals goal ≡ Some g → result ≡ slice_get g.args input }
 {
-    let arguments = goal_at(spec, goal).args.as_slice();
+    let arguments = spec.goal(goal).args.as_slice();
     let input = usize::from(input);
     if input >= arguments.len() {
         return None;
@@ -127,7 +102,7 @@ fn have_result_sorts(spec: &Spec, goal: u32, nodes: &[Node], sources: &[Src]) ->
     ensures { (g : Goal) → slice_get (file spec.now).goals goal ≡ Some g →
         (IsTrue result ↔ (map (source_sort (file spec.now) g nodes.now (length nodes.now)) sources.now ≡ map sort_of g.results)) }
 {
-    let results = goal_at(spec, goal).results.as_slice();
+    let results = spec.goal(goal).results.as_slice();
     if sources.len() != results.len() {
         return false;
     }
@@ -178,7 +153,7 @@ fn is_fitting(spec: &Spec, goal: u32, nodes: &[Node], place: usize) -> bool
     if op >= spec.ops.len() {
         return false;
     }
-    let operation = operation_at(spec, op);
+    let operation = spec.op(op);
     if !are_within(operation.attrs.as_slice(), node.attrs.as_slice()) {
         return false;
     }
