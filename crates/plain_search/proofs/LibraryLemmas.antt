@@ -6,14 +6,13 @@ use Rattle.std.specs.Cmp.Lexicographic.{slice_cmp}
 use Rattle.std.specs.declared.cmp.Ordering.{Ordering}
 use Rattle.std.specs.declared.cmp.Ordering.TheVariants.{Less, Equal}
 use Rattle.bv_terms.specs.declared.value.Sort.{Sort}
-use Rattle.bv_terms.specs.declared.value.Sort.TheVariants as sort
 use Rattle.bv_terms.specs.Term.{Term, value}
 use Rattle.bv_terms.specs.Sorts.{sort_of, same_sort}
-use Rattle.isel_spec.specs.File.{File, Operation, Goal}
+use Rattle.isel_spec.specs.File.{File, Operation, Goal, stays_in}
 use Rattle.pattern_core.specs.declared.pattern.Src.TheVariants.{Input}
 use Rattle.pattern_core.specs.declared.pattern.Node.{Node}
 use Rattle.pattern_core.specs.declared.pattern.Pattern.{Pattern}
-use Rattle.pattern_core.specs.Pattern.{IsRule, IsWellFormed}
+use Rattle.pattern_core.specs.Pattern.{HasNoMemory, IsRule, IsWellFormed}
 use Rattle.pattern_core.specs.Walk.{IsCanonical}
 use Rattle.pattern_core.specs.Order.{source_cmp, pattern_cmp, IsRising}
 use Rattle.pattern_core.specs.Library.{AreRules, IsLibrary}
@@ -24,12 +23,13 @@ use Rattle.plain_search.specs.Cases.{cases_of, input_at, input_agrees, term_agre
 use Rattle.plain_search.proofs.ListLemmas.{In, In-from_Contains, Contains-from_In, In-slice_get, In-append_left, In-append_right, In-append_cases, In-map, In_of_map, In-filter, In_of_filter, IsOrdered, IsOrdered-filter, IsOrdered-map, IsOrdered-append, IsRising-from_ordered}
 use Rattle.plain_search.proofs.TupleLemmas.{same_sort-true, same_sort-refl, slice_get-places_from, In-places_from, IsOrdered-places_from, Fit, Fit-from_tuples, In-tuples, IsBefore, IsOrdered-tuples, nat_cmp-lt, nat_cmp_itself}
 use Rattle.plain_search.proofs.PatternLemmas.{IsCanonical-input, IsCanonical-operation, IsWellFormed-input, IsInputOf-from_well_formed, IsUsable, IsWellFormed-operation, one_of_length, IsOverInputs-from_well_formed}
+use Rattle.plain_search.proofs.MemoryLemmas.{no_memory}
 use Rattle.plain_search.proofs.RuleLemmas.{decides_rule, GivesValue-input, GivesValue-operation}
 
 -- what the enumeration is given
 pub record IsTask (f : File) (g : Goal) (w : Wanted) : Type 0 where
   pub plain : (o : Operation) → Contains f.ops o → IsPlain o
-  pub no_memory : In g.args sort.Mem → ⊥
+  pub no_memory : HasNoMemory g
   pub term : Term
   pub results : g.results ≡ term ∷ []
   pub wanted : IsWanted g w
@@ -234,12 +234,14 @@ IsOrdered-rules_from w op (o ∷ os) =
 
 input_AreRules : (f : File) (g : Goal) (w : Wanted) → IsTask f g w → AreRules f g 0 (input_rules w)
 input_AreRules f g w k = record {
+  no_memory = k.no_memory;
   rising = IsRising-input_rules w;
   members = λ p. (λ c. rule_from_input f g w k p (In-from_Contains (input_rules w) p c), λ r. Contains-from_In (input_rules w) p (input_from_rule f g w k p r.0 r.2 r.3));
 }
 
 operation_AreRules : (f : File) (g : Goal) (w : Wanted) → IsTask f g w → AreRules f g 1 (rules_from w 0 f.ops)
 operation_AreRules f g w k = record {
+  no_memory = k.no_memory;
   rising = IsRising-from_ordered pattern_cmp (rules_from w 0 f.ops) (IsOrdered-rules_from w 0 f.ops);
   members = λ p. (λ c. rule_from_operations f g w k p (In-from_Contains (rules_from w 0 f.ops) p c), λ r. Contains-from_In (rules_from w 0 f.ops) p (operation_from_rule f g w k p r.0 r.2 r.3));
 }
@@ -260,13 +262,13 @@ IsLibrary-inputs f g w bound k some =
     ]
 
 pub IsLibrary-no_inputs : (f : File) (g : Goal) (w : Wanted) → IsTask f g w → input_rules w ≡ [] → IsLibrary f g 0 []
-IsLibrary-no_inputs f g w k none = inl (λ p wf size rule. no_input_rule f g w k none p wf (omega arith) rule, refl)
+IsLibrary-no_inputs f g w k none = inl (record { no_memory = k.no_memory; none = λ p wf size rule. no_input_rule f g w k none p wf (omega arith) rule }, refl)
 
 pub IsLibrary-operations : (f : File) (g : Goal) (w : Wanted) → IsTask f g w → input_rules w ≡ [] → IsLibrary f g 1 (rules_from w 0 f.ops)
 IsLibrary-operations f g w k none =
     elim (cases_nil (rules_from w 0 f.ops)) [
       | inl empty ↦ inl (
-        (λ p wf size rule. by_size p wf rule empty (length p.nodes) refl size),
+        record { no_memory = k.no_memory; none = λ p wf size rule. by_size p wf rule empty (length p.nodes) refl size },
         empty,
       )
       | inr x ↦ (let r = rule_from_operations f g w k x.0 x.1 in
@@ -286,7 +288,7 @@ IsTask-from_searchable f place g w searchable there wanted =
     let only = one_of_length g.results small.results in
     record {
       plain = searchable.operations;
-      no_memory = λ i. small.plain (Contains-from_In g.args sort.Mem i);
+      no_memory = no_memory g only.0 only.1 small.plain (subst (λ ts. stays_in g.args (result_in ts) ≡ true) only.1 wanted.stays);
       term = only.0;
       results = only.1;
       wanted = wanted;

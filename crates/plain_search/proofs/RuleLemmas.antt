@@ -11,14 +11,14 @@ use Rattle.bv_terms.specs.declared.value.Value.TheVariants as val
 use Rattle.bv_terms.specs.Term.{Term, value}
 use Rattle.bv_terms.specs.Sorts.{HaveSorts}
 use Rattle.isel_spec.specs.File.{File, Operation, Goal}
-use Rattle.isel_spec.specs.Form.{bits_of}
+use Rattle.bv_terms.specs.Sorts.{width_of}
 use Rattle.pattern_core.specs.declared.pattern.Src.TheVariants.{Input}
 use Rattle.pattern_core.specs.declared.pattern.Pattern.{Pattern}
-use Rattle.pattern_core.specs.Pattern.{source_value, attr_values, op_results, pattern_results, IsRule}
+use Rattle.pattern_core.specs.Pattern.{source_value, attr_values, op_results, pattern_results, HasNoMemory, IsRule}
 use Rattle.plain_search.specs.declared.cases.Case.{Case}
 use Rattle.plain_search.specs.Cases.{same_value, input_at, inputs_numbered, case_numbered, cases_of}
 use Rattle.plain_search.specs.Candidates.{input_pattern, operation_pattern}
-use Rattle.plain_search.proofs.ListLemmas.{In, In-map, In_of_map, list_all_in, list_all_from_in}
+use Rattle.plain_search.proofs.ListLemmas.{In, Contains-from_In, In-map, In_of_map, list_all_in, list_all_from_in}
 use Rattle.plain_search.proofs.InputLemmas.{HaveSorts-numbered, IsNumbered-from_sorts}
 use Rattle.plain_search.proofs.PatternLemmas.{IsUsable}
 
@@ -55,7 +55,7 @@ in_range a (suc n) (suc k) h =
 pub passes_everywhere : (p : Case → Bool) (ss : List Sort) (t : Term) → list_all p (cases_of ss t) ≡ true → (vs : List Value) → HaveSorts ss vs → p (case_at t vs) ≡ true
 passes_everywhere p ss t h vs sorts =
     let n = IsNumbered-from_sorts ss vs sorts in
-    let count : ℕ = 2 ^ sum_by bits_of ss in
+    let count : ℕ = 2 ^ sum_by width_of ss in
     let there : In (range_with_len 0 count) n.0 = subst (In (range_with_len 0 count)) (omega arith) (in_range 0 count n.0 n.1) in
     let passes : p (case_numbered ss t n.0) ≡ true = list_all_in p (cases_of ss t) (case_numbered ss t n.0) h (In-map (case_numbered ss t) (range_with_len 0 count) n.0 there) in
     subst (λ us. p (case_at t us) ≡ true) n.2 passes
@@ -63,7 +63,7 @@ passes_everywhere p ss t h vs sorts =
 pub passes_all_cases : (p : Case → Bool) (ss : List Sort) (t : Term) → (In ss sort.Mem → ⊥) → ((vs : List Value) → HaveSorts ss vs → p (case_at t vs) ≡ true) → list_all p (cases_of ss t) ≡ true
 passes_all_cases p ss t plain h =
     list_all_from_in p (cases_of ss t) (λ c i.
-    let r = In_of_map (case_numbered ss t) (range_with_len 0 (2 ^ sum_by bits_of ss)) c i in
+    let r = In_of_map (case_numbered ss t) (range_with_len 0 (2 ^ sum_by width_of ss)) c i in
     subst (λ x. p x ≡ true) r.2 (h (inputs_numbered ss r.0) (HaveSorts-numbered ss r.0 plain)))
 
 -- ---- rules
@@ -72,22 +72,27 @@ passes_all_cases p ss t plain h =
 abbrev pub GivesValue : File → Pattern → (List Value → Value) → Type 0
 GivesValue f p v = (vs : List Value) → pattern_results f p vs ≡ v vs ∷ []
 
-pub IsRule-from_values : (f : File) (g : Goal) (t : Term) (p : Pattern) (v : List Value → Value) → g.results ≡ t ∷ [] → GivesValue f p v → ((vs : List Value) → HaveSorts g.args vs → v vs ≡ value vs t) → IsRule f g p
-IsRule-from_values f g t p v one gives h =
-    λ vs sorts. gives vs ∙ (λ i. h vs sorts i ∷ []) ∙ ap (map (value vs)) (sym one)
+pub IsRule-from_values : (f : File) (g : Goal) (t : Term) (p : Pattern) (v : List Value → Value) → HasNoMemory g → g.results ≡ t ∷ [] → GivesValue f p v → ((vs : List Value) → HaveSorts g.args vs → v vs ≡ value vs t) → IsRule f g p
+IsRule-from_values f g t p v plain one gives h = record {
+  no_memory = plain;
+  same = λ vs sorts. gives vs ∙ (λ i. h vs sorts i ∷ []) ∙ ap (map (value vs)) (sym one);
+}
 
 same_head : {X : Type 0} (x y : X) → x ∷ [] ≡ y ∷ [] → x ≡ y
 same_head x y e = cc
 
 pub values_from_rule : (f : File) (g : Goal) (t : Term) (p : Pattern) (v : List Value → Value) → g.results ≡ t ∷ [] → GivesValue f p v → IsRule f g p → (vs : List Value) → HaveSorts g.args vs → v vs ≡ value vs t
 values_from_rule f g t p v one gives rule vs sorts =
-    same_head (v vs) (value vs t) (sym (gives vs) ∙ rule vs sorts ∙ ap (map (value vs)) one)
+    same_head (v vs) (value vs t) (sym (gives vs) ∙ rule.same vs sorts ∙ ap (map (value vs)) one)
+
+pub no_memory_in : (g : Goal) → HasNoMemory g → In g.args sort.Mem → ⊥
+no_memory_in g plain i = plain.args (Contains-from_In g.args sort.Mem i)
 
 -- a test of one value in each case decides whether the pattern is a rule
-pub decides_rule : (f : File) (g : Goal) (t : Term) (p : Pattern) (v : List Value → Value) → (In g.args sort.Mem → ⊥) → g.results ≡ t ∷ [] → GivesValue f p v → (list_all (λ (c : Case). same_value (v c.inputs.values) c.result) (cases_of g.args t) ≡ true) ↔ IsRule f g p
+pub decides_rule : (f : File) (g : Goal) (t : Term) (p : Pattern) (v : List Value → Value) → HasNoMemory g → g.results ≡ t ∷ [] → GivesValue f p v → (list_all (λ (c : Case). same_value (v c.inputs.values) c.result) (cases_of g.args t) ≡ true) ↔ IsRule f g p
 decides_rule f g t p v plain one gives = (
-  λ h. IsRule-from_values f g t p v one gives (λ vs sorts. same_value-true (v vs) (value vs t) (passes_everywhere (λ (c : Case). same_value (v c.inputs.values) c.result) g.args t h vs sorts)),
-  λ rule. passes_all_cases (λ (c : Case). same_value (v c.inputs.values) c.result) g.args t plain (λ vs sorts. same_value-refl (v vs) (value vs t) (values_from_rule f g t p v one gives rule vs sorts)),
+  λ h. IsRule-from_values f g t p v plain one gives (λ vs sorts. same_value-true (v vs) (value vs t) (passes_everywhere (λ (c : Case). same_value (v c.inputs.values) c.result) g.args t h vs sorts)),
+  λ rule. passes_all_cases (λ (c : Case). same_value (v c.inputs.values) c.result) g.args t (no_memory_in g plain) (λ vs sorts. same_value-refl (v vs) (value vs t) (values_from_rule f g t p v one gives rule vs sorts)),
 )
 
 pub GivesValue-input : (f : File) (k : ℕ) → GivesValue f (input_pattern k) (λ vs. input_at vs k)

@@ -9,6 +9,7 @@ use Rattle.bv_terms.specs.declared.value.Sort.{Sort}
 use Rattle.bv_terms.specs.Term.{Term}
 use Rattle.bv_terms.specs.Sorts.{InputsFit, sort_of, same_sort}
 use Rattle.isel_spec.specs.File.{Operation, stays_in}
+use Rattle.isel_spec.proofs.SpecLemmas.{InputsFit-from_sorts}
 use Rattle.pattern_core.specs.declared.pattern.Pattern.{Pattern}
 use Rattle.plain_search.specs.declared.cases.Case.{Case}
 use Rattle.plain_search.specs.declared.enumeration.Wanted.{Wanted}
@@ -16,7 +17,7 @@ use Rattle.plain_search.specs.Candidates.{IsTried, places, tuples, result_in, op
 use Rattle.plain_search.specs.Cases.{input_at, term_agrees}
 use Rattle.plain_search.proofs.ListLemmas.{In, In-from_Contains}
 use Rattle.plain_search.proofs.TupleLemmas.{slice_get-places_from, Fit, Fit-from_tuples}
-use Rattle.plain_search.proofs.SoundLemmas.{length-sorts, HaveSorts-picked, places_within, InputsFit-from_sorts}
+use Rattle.plain_search.proofs.SoundLemmas.{length-sorts, HaveSorts-picked, places_within}
 
 -- an input of the result's sort, in the place that a loop has come to
 pub input_within : (w : Wanted) → IsTried w → (items : List ℕ) (cases : List Case) (i : ℕ) → items ≡ places w.sorts.items w.sort → cases ≡ w.cases.items → i < length items → All (λ (c : Case). get_or items i 0 < length c.inputs.values) cases

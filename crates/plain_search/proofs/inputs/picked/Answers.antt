@@ -1,7 +1,7 @@
 use Rattle.std.proofs.Common.{arith}
 use Rattle.std.proofs.lemmas.Grind.{common_steps}
 use Rattle.plain_search.proofs.ReadLemmas.{get_or-input_at}
-use Rattle.plain_search.proofs.cases.picked.Goals as goal
+use Rattle.plain_search.proofs.inputs.picked.Goals as goal
 
 pub loop-place-preserved : goal.loop-place-preserved
 loop-place-preserved c =
