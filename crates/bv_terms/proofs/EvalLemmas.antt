@@ -1,8 +1,8 @@
 -- The values that stand by place.
-use Rattle.std.proofs.Common.{◌≡◌, ◌≢◌, ℕ, zero, suc, ◌+◌, ◌<◌, ◌≤◌, List, [], ◌∷◌, length, slice_get, slice_set, slice_index_or, unwrap_or, None, Some, All, false, refl, sym, ap, ◌∙◌, subst, ⊎_elim, arith}
+use Rattle.std.proofs.Common.{◌≡◌, ◌≢◌, ℕ, zero, suc, ◌+◌, ◌<◌, ◌≤◌, List, [], ◌∷◌, ◌++◌, ◌⊎◌, inl, inr, Contains, length, slice_get, slice_set, slice_index_or, unwrap_or, None, Some, All, false, refl, sym, ap, ◌∙◌, subst, ⊎_elim, arith}
 use Rattle.std.specs.List.{AllByRecursion}
 use Rattle.std.proofs.lemmas.Bool.{cases_lt}
-use Rattle.std.proofs.lemmas.List.Elements.{All-head, All-tail, All-weaker, recursion_from_All}
+use Rattle.std.proofs.lemmas.List.Elements.{All-head, All-tail, All-weaker, All-push, All-from_recursion, recursion_from_All, Contains-append_left, Contains-push}
 use Rattle.std.proofs.lemmas.Option.{slice_get-get_or, slice_get_within}
 use Rattle.bv_terms.specs.declared.op.Op.{Op}
 use Rattle.bv_terms.specs.declared.op.TermId.{TermId}
@@ -11,9 +11,9 @@ use Rattle.bv_terms.specs.declared.value.Value.{Value}
 use Rattle.bv_terms.specs.declared.value.Value.TheVariants as val
 use Rattle.bv_terms.specs.declared.op.Op.TheVariants as op
 use Rattle.bv_terms.specs.Term.{Term, Operands, Apply, op_value, value, values}
-use Rattle.bv_terms.specs.Sorts.{HaveSorts, arity, refusal, sort_of, AreSized, InputFits, InputsFit, AllInputsFit}
-use Rattle.bv_terms.specs.Table.{Entry, Table, term_in, operands, terms_of, IsTable}
-use Rattle.bv_terms.specs.Eval.{value_in, values_in}
+use Rattle.bv_terms.specs.Sorts.{HaveSorts, arity, refusal, sort_of, sorts_of, AreSized, InputFits, InputsFit, AllInputsFit}
+use Rattle.bv_terms.specs.Table.{Entry, Table, term_in, operands, terms_of, term_at, IsTable}
+use Rattle.bv_terms.specs.Eval.{value_in, values_in, IsValued}
 use Rattle.bv_terms.proofs.TermLemmas.{IsSorted-of, IsFitting-of, sorts_of-sized, InputsFit-parts, values-sorted}
 use Rattle.bv_terms.proofs.TableLemmas.{term_at-node}
 use Rattle.bv_terms.proofs.MakeLemmas.{node-sorted, arity-of_args}
@@ -70,33 +70,65 @@ abbrev pub IsFilled : Table → List Value → List Value → ℕ → Type 0
 IsFilled table inputs room n =
     (k : ℕ) → k < n → InputsFit inputs (term_in (terms_of table) k) → slice_get room k ≡ Some (value inputs (term_in (terms_of table) k))
 
-values-filled : (table : Table) (inputs room : List Value) (n : ℕ) → IsFilled table inputs room n → (args : List TermId) → AllByRecursion (λ (a : TermId). a.0 < n) args
-    → AllInputsFit inputs (operands (terms_of table) args) → values_in room args ≡ values inputs (operands (terms_of table) args)
-unfolding value InputsFit
-values-filled table inputs room n filled [] below fit = refl
-values-filled table inputs room n filled (a ∷ args) below fit =
-    ap (λ v. v ∷ values_in room args) (ap (λ o. unwrap_or o (val.Bool false)) (filled a.0 below.0 fit.0))
-    ∙ ap (λ vs. value inputs (term_in (terms_of table) a.0) ∷ vs) (values-filled table inputs room n filled args below.1 fit.1)
+values-valued : (table : Table) (inputs room : List Value) (args : List TermId) → AllByRecursion (IsValued table inputs room) args
+    → values_in room args ≡ values inputs (operands (terms_of table) args)
+unfolding value
+values-valued table inputs room [] valued = refl
+values-valued table inputs room (a ∷ args) valued =
+    ap (λ v. v ∷ values_in room args) (ap (λ o. unwrap_or o (val.Bool false)) valued.0)
+    ∙ ap (λ vs. value inputs (term_at table a) ∷ vs) (values-valued table inputs room args valued.1)
+
+-- the operands of a node whose inputs fit
+record HasOperands (table : Table) (inputs : List Value) (e : Entry) : Type 0 where
+  pub sorts : List Sort
+  pub of_args : sorts_of (operands (terms_of table) e.args) ≡ Some sorts
+  pub allowed : refusal e.op sorts ≡ None
+  pub fit : AllInputsFit inputs (operands (terms_of table) e.args)
+
+node-operands : (table : Table) → IsTable table → (inputs : List Value) (at : TermId) (e : Entry) → slice_get table.nodes at.0 ≡ Some e
+    → InputsFit inputs (term_at table at) → HasOperands table inputs e
+node-operands table is_table inputs at e h fit =
+    let term = term_at-node table is_table at e h in
+    let node = node-sorted table is_table at.0 (slice_get_within table.nodes at.0 e h) in
+    let sorted = IsSorted-of e.op (operands (terms_of table) e.args) node.0 (ap sort_of (sym term) ∙ node.1) in
+    record {
+      sorts = sorted.sorts;
+      of_args = sorted.of_args;
+      allowed = sorted.fits;
+      fit = (InputsFit-parts inputs e.op (operands (terms_of table) e.args) sorted.sorts sorted.of_args (IsFitting-of e.op sorted.sorts sorted.fits)
+          (subst (InputsFit inputs) term fit)).1;
+    }
 
 value-apply : (inputs : List Value) (o : Op) (ts : Operands) → value inputs (Apply o ts) ≡ op_value inputs o (values inputs ts)
 unfolding value
 value-apply inputs o ts = refl
 
--- what the step answers for a node is the value of its term, where the places below are filled
-pub step-value : (table : Table) → IsTable table → (inputs room : List Value) (k : ℕ) (e : Entry) → slice_get table.nodes k ≡ Some e → IsFilled table inputs room k
-    → (r : Value) → ((ss : List Sort) → refusal e.op ss ≡ None → AreSized ss → HaveSorts ss (values_in room e.args) → r ≡ op_value inputs e.op (values_in room e.args))
-    → InputsFit inputs (term_in (terms_of table) k) → r ≡ value inputs (term_in (terms_of table) k)
-step-value table is_table inputs room k e h filled r says fit =
+-- what the step answers for a node is the value of its term, where the places of its arguments have theirs
+pub step-value : (table : Table) → IsTable table → (inputs room : List Value) (at : TermId) (e : Entry) → slice_get table.nodes at.0 ≡ Some e
+    → All (IsValued table inputs room) e.args → (r : Value)
+    → ((ss : List Sort) → refusal e.op ss ≡ None → AreSized ss → HaveSorts ss (values_in room e.args) → r ≡ op_value inputs e.op (values_in room e.args))
+    → InputsFit inputs (term_at table at) → r ≡ value inputs (term_at table at)
+step-value table is_table inputs room at e h valued r says fit =
     let ts = operands (terms_of table) e.args in
-    let term = term_at-node table is_table (record { 0 = k }) e h in
-    let node = node-sorted table is_table k (slice_get_within table.nodes k e h) in
-    let sorted = IsSorted-of e.op ts node.0 (ap sort_of (sym term) ∙ node.1) in
-    let fits = IsFitting-of e.op sorted.sorts sorted.fits in
-    let all_fit = (InputsFit-parts inputs e.op ts sorted.sorts sorted.of_args fits (subst (InputsFit inputs) term fit)).1 in
-    let below = recursion_from_All (λ (a : TermId). a.0 < k) e.args (is_table.earlier k e h) in
-    let same = values-filled table inputs room k filled e.args below all_fit in
-    let have = subst (HaveSorts sorted.sorts) (sym same) (values-sorted inputs ts sorted.sorts sorted.of_args all_fit) in
-    says sorted.sorts sorted.fits (sorts_of-sized ts sorted.sorts sorted.of_args) have ∙ ap (op_value inputs e.op) same ∙ sym (value-apply inputs e.op ts) ∙ ap (value inputs) (sym term)
+    let node = node-operands table is_table inputs at e h fit in
+    let same = values-valued table inputs room e.args (recursion_from_All (IsValued table inputs room) e.args valued) in
+    let have = subst (HaveSorts node.sorts) (sym same) (values-sorted inputs ts node.sorts node.of_args node.fit) in
+    says node.sorts node.allowed (sorts_of-sized ts node.sorts node.of_args) have ∙ ap (op_value inputs e.op) same ∙ sym (value-apply inputs e.op ts)
+    ∙ ap (value inputs) (sym (term_at-node table is_table at e h))
+
+args-filled : (table : Table) (inputs room : List Value) (n : ℕ) → IsFilled table inputs room n → (args : List TermId) → AllByRecursion (λ (a : TermId). a.0 < n) args
+    → AllInputsFit inputs (operands (terms_of table) args) → AllByRecursion (IsValued table inputs room) args
+unfolding InputsFit
+args-filled table inputs room n filled [] below fit = tt
+args-filled table inputs room n filled (a ∷ args) below fit = (filled a.0 below.0 fit.0, args-filled table inputs room n filled args below.1 fit.1)
+
+-- where the places below a node are filled, those of its arguments have their values
+pub args-valued : (table : Table) → IsTable table → (inputs room : List Value) (at : TermId) (e : Entry) → slice_get table.nodes at.0 ≡ Some e
+    → IsFilled table inputs room at.0 → InputsFit inputs (term_at table at) → All (IsValued table inputs room) e.args
+args-valued table is_table inputs room at e h filled fit =
+    All-from_recursion (IsValued table inputs room) e.args
+    (args-filled table inputs room at.0 filled e.args (recursion_from_All (λ (a : TermId). a.0 < at.0) e.args (is_table.earlier at.0 e h))
+    (node-operands table is_table inputs at e h fit).fit)
 
 pub IsFilled-more : (table : Table) (inputs room : List Value) (n : ℕ) (r : Value) → n < length room → IsFilled table inputs room n
     → (InputsFit inputs (term_in (terms_of table) n) → r ≡ value inputs (term_in (terms_of table) n)) → IsFilled table inputs (slice_set room n r) (n + 1)
@@ -132,3 +164,33 @@ InputsFit-node table is_table inputs k e h own earlier =
     let below = recursion_from_All (λ (a : TermId). a.0 < k) e.args (is_table.earlier k e h) in
     subst (InputsFit inputs) (sym (term_at-node table is_table (record { 0 = k }) e h))
     (InputsFit-apply inputs e.op (operands (terms_of table) e.args) own (AllInputsFit-operands inputs (terms_of table) k earlier e.args below))
+
+-- ---- along a list of nodes
+
+-- the places of these nodes have their values, and all others are as in an older room
+pub record IsAlong (table : Table) (inputs old room : List Value) (nodes : List TermId) : Type 0 where
+  pub valued : All (IsValued table inputs room) nodes
+  pub others : (at : TermId) → ¬ (Contains nodes at) → slice_get room at.0 ≡ slice_get old at.0
+
+pub IsAlong-none : (table : Table) (inputs room : List Value) → IsAlong table inputs room room []
+IsAlong-none table inputs room = record { valued = λ k d h. absurd (omega (arith, h)); others = λ at new. refl }
+
+-- one more place is set
+pub IsAlong-more : (table : Table) (inputs old room : List Value) (nodes : List TermId) (at : TermId) (r : Value) → at.0 < length room
+    → IsAlong table inputs old room nodes → r ≡ value inputs (term_at table at) → IsAlong table inputs old (slice_set room at.0 r) (nodes ++ at ∷ [])
+IsAlong-more table inputs old room nodes at r within along is =
+    let set = slice_set room at.0 r in
+    let here : IsValued table inputs set at = slice_get-set_same room at.0 r within ∙ ap Some is in
+    record {
+      valued = All-push (IsValued table inputs set) nodes at
+          (All-weaker (IsValued table inputs room) (IsValued table inputs set) (λ b valued. ⊎_elim
+          (λ same. subst (λ k. slice_get set k ≡ Some (value inputs (term_in (terms_of table) k))) (sym same) here)
+          (λ apart. slice_get-set_other room at.0 b.0 r apart ∙ valued) (same_or_apart b.0 at.0)) nodes along.valued) here;
+      others = λ b new. slice_get-set_other room at.0 b.0 r
+          (λ same. new (subst (Contains (nodes ++ at ∷ [])) (ap (λ (m : ℕ). let id : TermId = record { 0 = m } in id) (sym same)) (Contains-push nodes at)))
+          ∙ along.others b (λ c. new (Contains-append_left nodes (at ∷ []) b c));
+    }
+  where
+    same_or_apart : (j k : ℕ) → (j ≡ k) ⊎ (j ≢ k)
+    same_or_apart j k = ⊎_elim (λ less. inr (λ same. omega (arith, less, same)))
+        (λ more. ⊎_elim (λ less. inr (λ same. omega (arith, less, same))) (λ back. inl (omega (arith, more, back))) (cases_lt k j)) (cases_lt j k)

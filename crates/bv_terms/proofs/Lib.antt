@@ -1,7 +1,9 @@
 pub mod TermLemmas
 pub mod TableLemmas
 pub mod NodeLemmas
-pub mod KeptLemmas
+pub mod TermTableLemmas
 pub mod MakeLemmas
 pub mod WordLemmas
 pub mod EvalLemmas
+pub mod SubtermLemmas
+pub mod CollectLemmas

@@ -19,7 +19,7 @@ abbrev pub table_of : ℕ → List (Node × Sort) → Table
 table_of pointer kept = record { pointer = pointer; nodes = map (λ e. entry_of e.0) kept }
 
 -- what nodes with their sorts keep: they make a table, unused places have node 0, and each sort is that of the node's term
-pub record IsKept (pointer : ℕ) (kept : List (Node × Sort)) : Type 0 where
+pub record IsTermTable (pointer : ℕ) (kept : List (Node × Sort)) : Type 0 where
   pub table : IsTable (table_of pointer kept)
   pub padded : map (λ e. e.0) kept ≡ map node_of (table_of pointer kept).nodes
   pub sorts : map (λ e. Some e.1) kept ≡ map sort_of (terms_of (table_of pointer kept))

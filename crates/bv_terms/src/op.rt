@@ -5,7 +5,7 @@ use crate::value::{Sort, mask};
 use std::alloc::AllocFailed;
 
 /// The number of a node in a table of terms.
-#[derive(Clone, Copy, Debug, PartialEq, Eq, Hash)]
+#[derive(Clone, Copy, Debug, PartialEq, Eq, PartialOrd, Ord, Hash)]
 pub struct TermId(pub usize);
 
 /// What a node does with its arguments.

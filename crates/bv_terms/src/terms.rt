@@ -1,8 +1,12 @@
-ghost use Rattle.std.specs.Prelude.{◌≡◌, ◌<◌, ◌≤◌, [], length, slice_get, None, Some, All, Contains, IfOk, IfErr, OnOk, OnErr, MatchOption, MatchResult};
+ghost use Rattle.std.specs.Prelude.{◌≡◌, ◌<◌, ◌≤◌, [], length, slice_get, All, Contains};
+ghost use Rattle.std.specs.Prelude.{None, Some, IfOk, IfErr, OnOk, OnErr, MatchOption, MatchResult};
 ghost use Rattle.bv_terms.specs.declared.value.Sort.{Sort};
 ghost use Rattle.bv_terms.specs.Term.{Apply, value};
 ghost use Rattle.bv_terms.specs.Sorts.{sort_of, HasSort, InputsFit};
-ghost use Rattle.bv_terms.specs.Table.{operands, terms_of, term_at, make_refusal, table_with, IsTable, Makes};
+ghost use Rattle.bv_terms.specs.Table.{Entry, operands, terms_of, term_at, make_refusal, table_with, IsTable, Makes};
+ghost use Rattle.bv_terms.specs.Subterm.{AreSubterms, IsTopological, keys_with};
+ghost use Rattle.bv_terms.specs.Eval.{IsValued};
+ghost use Rattle.bv_terms.specs.declared.op.TermId.{TermId};
 ghost use Rattle.bv_terms.specs.Node.{entry_of, node_of};
 
 use crate::eval::apply;
@@ -10,7 +14,8 @@ use crate::node::Node;
 use crate::op::{MakeFault, Op, TermId};
 use crate::value::{Env, Sort, Value};
 use indexmap::IndexMap;
-use std::alloc::Global;
+use std::alloc::{AllocError, Global};
+use std::collections::BTreeSet;
 use std::marker::Model;
 
 /// A table of nodes. Each node is an operation over earlier nodes, and no two nodes are equal.
@@ -24,13 +29,13 @@ pub struct Terms {
 
 impl Model for Terms {
     ghost use Rattle.bv_terms.specs.Table.{Table};
-    ghost use Rattle.bv_terms.specs.Node.{table_of, IsKept};
+    ghost use Rattle.bv_terms.specs.Node.{table_of, IsTermTable};
 
     ghost Value = { Table };
 
     ghost view = { λ t. table_of t.pointer t.nodes.entries };
 
-    ghost invariant = { λ t. IsKept t.pointer t.nodes.entries };
+    ghost invariant = { λ t. IsTermTable t.pointer t.nodes.entries };
 }
 
 impl Terms {
@@ -115,13 +120,65 @@ impl Terms {
         ensures sorted { (s : Sort) → sort_of (term_at self.now at) ≡ Some s → HasSort s result }
     {
         let inputs = env.values.as_slice();
-        let nodes = &self.nodes;
         for place in 0..at.0 + 1 {
-            let (node, _) = nodes.get_index(place).unwrap();
-            let value = apply(&node.op, node.args(), inputs, room);
+            let value = self.step(TermId(place), inputs, room);
             room[place] = value;
         }
         room[at.0]
+    }
+
+    /// The nodes of the subterms of these nodes' terms, each once, rising by number. It costs these
+    /// nodes and no others of the table. An `Err` is out of memory.
+    pub fn subterms(&self, alloc: Global, results: &[TermId]) -> Result<Vec<TermId>, AllocError>
+        requires { All (λ at. at.0 < length self.now.nodes) results.now }
+        ensures exact { IfOk result (λ nodes. AreSubterms self.now results.now nodes.items) }
+
+        // What callers use of it.
+        ensures order { IfOk result (λ nodes. IsTopological self.now nodes.items) }
+        ensures results { IfOk result (λ nodes. All (Contains nodes.items) results.now) }
+    {
+        let _ = &self.nodes;
+        let mut pending = BTreeSet::new(alloc);
+        put_all(&mut pending, results)?;
+        let mut found = Vec::new(alloc);
+        // The arguments of a node are smaller than it is, so the greatest comes once.
+        while let Some(at) = pending.pop_last() {
+            let (_, args) = self.node(at);
+            put_all(&mut pending, args)?;
+            found.push(at)?;
+        }
+        found.reverse();
+        Ok(found)
+    }
+
+    /// Sets the places of these nodes to the values of their terms, where the inputs have the
+    /// environment's values. Each node stands after its arguments. It takes no memory, and costs
+    /// these nodes and no others of the table.
+    pub fn eval_nodes(&self, nodes: &[TermId], env: &Env, room: &mut [Value])
+        requires order { IsTopological self.now nodes.now }
+        requires inputs { All (λ at. InputsFit env.now.values (term_at self.now at)) nodes.now }
+        requires room { length self.now.nodes ≤ length room.old }
+        ensures values { All (IsValued self.now env.now.values room.new) nodes.now }
+        ensures others { (at : TermId) → ¬ Contains nodes.now at → slice_get room.new at.0 ≡ slice_get room.old at.0 }
+    {
+        let inputs = env.values.as_slice();
+        for at in nodes {
+            let value = self.step(*at, inputs, room);
+            room[at.0] = value;
+        }
+    }
+
+    /// The value of a node's term, where the values of its arguments stand in their places.
+    fn step(&self, at: TermId, inputs: &[Value], room: &[Value]) -> Value
+        requires there { at.0 < length self.now.nodes }
+        requires room { length self.now.nodes ≤ length room.now }
+        ensures value { (e : Entry) → slice_get self.now.nodes at.0 ≡ Some e
+            → All (IsValued self.now inputs.now room.now) e.args
+            → InputsFit inputs.now (term_at self.now at) → result ≡ value inputs.now (term_at self.now at) }
+        ensures table { IsTable self.now }
+    {
+        let (node, _) = self.nodes.get_index(at.0).unwrap();
+        apply(&node.op, node.args(), inputs, room)
     }
 
     /// The sort of an operation over nodes, or why it cannot stand over them.
@@ -156,4 +213,14 @@ impl Terms {
         self.nodes.insert(node, sort)?;
         Ok(TermId(place))
     }
+}
+
+/// Adds nodes to a set.
+fn put_all(set: &mut BTreeSet<TermId>, nodes: &[TermId]) -> Result<(), AllocError>
+    ensures { OnOk result (set.new.keys ≡ keys_with set.old.keys nodes.now) }
+{
+    for node in nodes {
+        set.insert(*node)?;
+    }
+    Ok(())
 }

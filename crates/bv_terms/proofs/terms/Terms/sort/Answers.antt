@@ -3,7 +3,7 @@ use Rattle.std.proofs.Common.{◌≡◌, Some, slice_get, sym, ap, ◌∙◌, su
 use Rattle.std.specs.Map.Iter.{deref_pair}
 use Rattle.bv_terms.specs.Sorts.{sort_of}
 use Rattle.bv_terms.specs.Table.{Table, term_at}
-use Rattle.bv_terms.proofs.KeptLemmas.{kept-sort}
+use Rattle.bv_terms.proofs.TermTableLemmas.{kept-sort}
 use Rattle.bv_terms.proofs.terms.Terms.sort.Goals as goal
 
 pub returns : goal.returns

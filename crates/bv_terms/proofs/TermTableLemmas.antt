@@ -17,7 +17,7 @@ use Rattle.bv_terms.specs.declared.value.Sort.{Sort}
 use Rattle.bv_terms.specs.Term.{Term, Apply}
 use Rattle.bv_terms.specs.Sorts.{arity, sort_of}
 use Rattle.bv_terms.specs.Table.{Entry, Table, term_in, operands, terms_of, table_with, IsTable}
-use Rattle.bv_terms.specs.Node.{entry_of, node_of, table_of, IsKept}
+use Rattle.bv_terms.specs.Node.{entry_of, node_of, table_of, IsTermTable}
 use Rattle.bv_terms.proofs.NodeLemmas.{node_eq, node_eq-sound, node_eq-refl}
 use Rattle.bv_terms.proofs.TableLemmas.{terms_of-push, IsTable-push}
 
@@ -33,7 +33,7 @@ sort_at None s h = cc
 sort_at (Some t) s h = sym (same_Some (Some s) (sort_of t) h)
 
 -- a kept sort is that of the node's term
-pub kept-sort : (pointer : ℕ) (kept : List (Node × Sort)) → IsKept pointer kept → (k : ℕ) (e : Node × Sort) → slice_get kept k ≡ Some e
+pub kept-sort : (pointer : ℕ) (kept : List (Node × Sort)) → IsTermTable pointer kept → (k : ℕ) (e : Node × Sort) → slice_get kept k ≡ Some e
     → sort_of (term_in (terms_of (table_of pointer kept)) k) ≡ Some e.1
 kept-sort pointer kept is k e h =
     sort_at (slice_get (terms_of (table_of pointer kept)) k) e.1
@@ -53,7 +53,7 @@ nodes-from_key pointer kept k n h =
     let at = option_map-some (λ (e : Node × Sort). e.0) (slice_get kept k) n (sym (slice_get-map (λ (e : Node × Sort). e.0) kept k) ∙ h) in
     slice_get-map (λ (e : Node × Sort). entry_of e.0) kept k ∙ ap (option_map (λ (e : Node × Sort). entry_of e.0)) at.1 ∙ ap (λ n. Some (entry_of n)) at.2
 
-key-from_node : (pointer : ℕ) (kept : List (Node × Sort)) → IsKept pointer kept → (k : ℕ) (e : Entry) → slice_get (table_of pointer kept).nodes k ≡ Some e → slice_get (keys kept) k ≡ Some (node_of e)
+key-from_node : (pointer : ℕ) (kept : List (Node × Sort)) → IsTermTable pointer kept → (k : ℕ) (e : Entry) → slice_get (table_of pointer kept).nodes k ≡ Some e → slice_get (keys kept) k ≡ Some (node_of e)
 key-from_node pointer kept is k e h =
     ap (λ ns. slice_get ns k) is.padded ∙ slice_get-map node_of (table_of pointer kept).nodes k ∙ ap (option_map node_of) h
 
@@ -77,7 +77,7 @@ pub Contains-from_slice_get : {A : Type 0} (xs : List A) (k : ℕ) (x : A) → s
 Contains-from_slice_get xs k x h = (k, slice_get_within xs k x h, get_or_from_slice_get xs k x x h)
 
 -- and one that is not found stands nowhere
-pub missing-node : (pointer : ℕ) (kept : List (Node × Sort)) → IsKept pointer kept → (n : Node) → n ≡ node_of (entry_of n) → position (node_eq n) (keys kept) ≡ None
+pub missing-node : (pointer : ℕ) (kept : List (Node × Sort)) → IsTermTable pointer kept → (n : Node) → n ≡ node_of (entry_of n) → position (node_eq n) (keys kept) ≡ None
     → ¬ (Contains (table_of pointer kept).nodes (entry_of n))
 missing-node pointer kept is n padded h = λ w.
     let at = Contains-slice_get (table_of pointer kept).nodes (entry_of n) w in
@@ -112,8 +112,8 @@ pub record IsAddable (n : Node) (s : Sort) (table : Table) : Type 0 where
   pub sorted : sort_of (Apply n.op (operands (terms_of table) (entry_of n).args)) ≡ Some s
   pub new : ¬ (Contains table.nodes (entry_of n))
 
-IsKept-push : (pointer : ℕ) (kept : List (Node × Sort)) → IsKept pointer kept → (n : Node) (s : Sort) → IsAddable n s (table_of pointer kept) → IsKept pointer (kept ++ (n, s) ∷ [])
-IsKept-push pointer kept is n s may =
+IsTermTable-push : (pointer : ℕ) (kept : List (Node × Sort)) → IsTermTable pointer kept → (n : Node) (s : Sort) → IsAddable n s (table_of pointer kept) → IsTermTable pointer (kept ++ (n, s) ∷ [])
+IsTermTable-push pointer kept is n s may =
     let table = table_of pointer kept in
     let e = entry_of n in
     let pushed = table_of-push pointer kept n s in
@@ -126,12 +126,12 @@ IsKept-push pointer kept is n s may =
     }
 
 -- once it is added, the table has it at its end, and is kept
-pub kept-added : {S : Type 0} (pointer : ℕ) (m : IndexMap Node Sort S) → IsKept pointer m.entries → (n : Node) (s : Sort) (table : Table) → table_of pointer m.entries ≡ table → IsAddable n s table
-    → (after : List (Node × Sort)) → after ≡ insert_entry node_eq m.entries n s → IsKept pointer after × (table_of pointer after ≡ table_with table (entry_of n))
+pub kept-added : {S : Type 0} (pointer : ℕ) (m : IndexMap Node Sort S) → IsTermTable pointer m.entries → (n : Node) (s : Sort) (table : Table) → table_of pointer m.entries ≡ table → IsAddable n s table
+    → (after : List (Node × Sort)) → after ≡ insert_entry node_eq m.entries n s → IsTermTable pointer after × (table_of pointer after ≡ table_with table (entry_of n))
 kept-added pointer m is n s table same may after e =
     let may_here = subst (IsAddable n s) (sym same) may in
     let end = e ∙ insert_entry-new node_eq m n s (lookup-none pointer m.entries n may_here.new) in (
-      subst (IsKept pointer) (sym end) (IsKept-push pointer m.entries is n s may_here),
+      subst (IsTermTable pointer) (sym end) (IsTermTable-push pointer m.entries is n s may_here),
       ap (table_of pointer) end ∙ table_of-push pointer m.entries n s ∙ ap (λ table. table_with table (entry_of n)) same,
     )
 
