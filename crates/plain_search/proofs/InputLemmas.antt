@@ -143,10 +143,10 @@ width-few ss k s l few =
 pub record IsDigit (ss : List Sort) (vs : List Value) (ks : List ℕ) (k number from digit width : ℕ) (s : Sort) (d : Value) : Type 0 where
   pub some : 0 < k
   pub within : k ≤ length ks
-  pub number : number ≡ number_from k ss vs ks
-  pub from : from ≡ get_or ks (k - 1) 0
-  pub digit : digit ≡ number_of (get_or vs from d)
-  pub width : width ≡ width_of (get_or ss (k - 1) s)
+  pub so_far : number ≡ number_from k ss vs ks
+  pub place : from ≡ get_or ks (k - 1) 0
+  pub read : digit ≡ number_of (get_or vs from d)
+  pub wide : width ≡ width_of (get_or ss (k - 1) s)
 
 pub number_step : (ss : List Sort) (vs : List Value) (ks : List ℕ) (k number from digit width : ℕ) (s : Sort) (d : Value)
     → ArePicked ss vs ks → All (λ (j : ℕ). j < length vs) ks → IsDigit ss vs ks k number from digit width s d
@@ -160,9 +160,9 @@ number_step ss vs ks k number from digit width s d h inside e =
     let l : j < length ks = omega (arith, some, within) in
     let m : j < length ss = omega (arith, some, within, long) in
     let value : get_or vs from d ≡ input_at vs (get_or ks j 0) =
-        ap (λ i. get_or vs i d) e.from ∙ get_or-input_at vs (get_or ks j 0) d (inside j 0 l) in
-    let high : number ≡ number_from (j + 1) ss vs ks = e.number ∙ ap (λ i. number_from i ss vs ks) (sym next) in
-    (λ i. high i * 2 ^ e.width i + (e.digit ∙ ap number_of value) i) ∙ sym (number_from-more ss vs ks j s m l)
+        ap (λ i. get_or vs i d) e.place ∙ get_or-input_at vs (get_or ks j 0) d (inside j 0 l) in
+    let high : number ≡ number_from (j + 1) ss vs ks = e.so_far ∙ ap (λ i. number_from i ss vs ks) (sym next) in
+    (λ i. high i * 2 ^ e.wide i + (e.read ∙ ap number_of value) i) ∙ sym (number_from-more ss vs ks j s m l)
 
 pub number_step-fits : (ss : List Sort) (vs : List Value) (ks : List ℕ) (k number from digit width : ℕ) (s : Sort) (d : Value)
     → ArePicked ss vs ks → All (λ (j : ℕ). j < length vs) ks → IsDigit ss vs ks k number from digit width s d

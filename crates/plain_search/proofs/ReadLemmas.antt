@@ -1,6 +1,7 @@
 -- What the code reads, in the words of the enumeration.
-use Rattle.std.proofs.Common.{◌≡◌, ℕ, ◌+◌, ◌<◌, All, subst, List, length, get_or, drop, Bool, true, false, ◌&&◌, ap, sym, ◌∙◌}
+use Rattle.std.proofs.Common.{◌≡◌, ℕ, ◌+◌, ◌<◌, All, subst, List, length, get_or, drop, [], ◌==◌, Bool, true, false, ◌&&◌, ap, sym, ◌∙◌}
 use Rattle.std.specs.List.{list_all}
+use Rattle.std.proofs.lemmas.Bool.{eq-eqb, false≢true}
 use Rattle.std.proofs.lemmas.List.{get_or_default, at_drop_more}
 use Rattle.std.proofs.lemmas.Option.{unwrap_or-slice_get}
 use Rattle.bv_terms.specs.declared.value.Value.{Value}
@@ -27,3 +28,7 @@ same_value_read items inputs k place d r b e f l t =
 -- what holds of each element holds of the one that a loop has come to
 pub here : {X : Type 0} (P : X → Type 0) (xs : List X) (i : ℕ) (x : X) → i < length xs → x ≡ get_or xs i x → All P xs → P x
 here P xs i x l e h = subst P (sym e) (h i x l)
+
+-- a list that a test has found not to be empty
+pub not_empty : {X : Type 0} (xs : List X) (n : ℕ) → n ≡ length xs → (n == 0) ≡ false → xs ≡ [] → ⊥
+not_empty xs n is test none = false≢true (sym test ∙ eq-eqb n 0 (is ∙ ap length none))

@@ -30,7 +30,7 @@ use Rattle.plain_search.specs.declared.enumeration.Wanted.{Wanted}
 use Rattle.plain_search.specs.Enumeration.{IsPlain, IsSearchable}
 use Rattle.plain_search.specs.Candidates.{IsWanted, IsTried, result_in}
 use Rattle.plain_search.specs.Cases.{input_at, inputs_numbered, case_numbered, cases_of}
-use Rattle.plain_search.proofs.ListLemmas.{In, Contains-from_In, In-slice_get}
+use Rattle.plain_search.proofs.ListLemmas.{In, In-from_Contains, Contains-from_In, In-slice_get}
 use Rattle.plain_search.proofs.InputLemmas.{HaveSorts-numbered}
 use Rattle.plain_search.proofs.TupleLemmas.{Fit}
 
@@ -123,6 +123,7 @@ IsWanted-from_goal s k at w h sort_is cases g e =
 pub IsTried-from_goal : (s : Spec) (k : ℕ) (at : TermId) (w : Wanted) → IsGoalAt s k w.sorts.items at → w.cases.items ≡ cases_of w.sorts.items (term_at s.terms at) → IsTried w
 IsTried-from_goal s k at w h cases = record {
   few = h.short;
+  plain = λ i. h.plain (In-from_Contains w.sorts.items sort.Mem i);
   inputs = subst (All (λ (c : Case). HaveSorts w.sorts.items c.inputs.values)) (sym cases) (cases_have_sorts w.sorts.items (term_at s.terms at) h.plain);
 }
 

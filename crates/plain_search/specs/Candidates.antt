@@ -1,8 +1,9 @@
 -- The patterns that are tried, in their order, and those of them that give what is wanted.
-use Rattle.std.specs.Prelude.{◌≡◌, ℕ, All, ◌+◌, ◌≤◌, List, [], ◌∷◌, ◌++◌, length, map, filter, Some, true, false, if◌then◌else◌}
+use Rattle.std.specs.Prelude.{◌≡◌, ℕ, All, ◌+◌, ◌≤◌, List, [], ◌∷◌, ◌++◌, length, map, filter, Contains, Some, true, false, if◌then◌else◌}
 use Rattle.std.specs.List.{flat_map}
 use Rattle.std.specs.Option.{option_map_or}
 use Rattle.bv_terms.specs.declared.value.Sort.{Sort}
+use Rattle.bv_terms.specs.declared.value.Sort.TheVariants as sort
 use Rattle.bv_terms.specs.Term.{Term}
 use Rattle.bv_terms.specs.Sorts.{same_sort, sort_of, HaveSorts}
 use Rattle.bv_terms.specs.Table.{term_in}
@@ -67,7 +68,8 @@ pub record IsWanted (g : Goal) (w : Wanted) : Type 0 where
   pub cases : w.cases.items ≡ cases_of g.args (result_in g.results)
   pub stays : stays_in g.args (result_in g.results) ≡ true
 
--- few arguments, and cases whose inputs have the arguments' sorts
+-- few arguments, none of them a memory, and cases whose inputs have the arguments' sorts
 pub record IsTried (w : Wanted) : Type 0 where
   pub few : length w.sorts.items ≤ 4
+  pub plain : ¬ Contains w.sorts.items sort.Mem
   pub inputs : All (λ (c : Case). HaveSorts w.sorts.items c.inputs.values) w.cases.items

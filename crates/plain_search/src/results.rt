@@ -22,12 +22,14 @@ pub enum Found {
     Nodes(Seq<TermId>),
 }
 
-/// The nodes of the subterms of a node's term, each after its arguments.
+/// The nodes along which a node's term is evaluated.
 pub fn nodes_of(alloc: Global, terms: &Terms, at: TermId) -> Result<Vec<TermId>, AllocError>
     requires { at.0 < length terms.now.nodes }
     ensures { IfOk result (λ nodes. AreNodesOf terms.now at nodes.items) }
 {
-    Ok(Vec::new(alloc))
+    // That inputs which fit the term fit its subterms rests on the terms' table, as `len` tells it.
+    terms.len();
+    terms.subterms(alloc, &[at])
 }
 
 /// The value of a node's term, by those of its subterms.
@@ -43,7 +45,8 @@ pub fn value_along(
     requires room { length terms.now.nodes ≤ length room.old }
     ensures { result ≡ value env.now.values (term_at terms.now at) }
 {
-    terms.eval(at, env, room)
+    terms.eval_nodes(nodes, env, room);
+    room[at.0]
 }
 
 /// The values of a term at all inputs of these sorts, by the inputs' numbers.
@@ -64,7 +67,8 @@ fn table_of(
     let mut table = Seq::new(alloc);
     for number in 0..count_of(sorts) {
         let inputs = inputs_of(alloc, sorts, number)?;
-        table.push(value_along(terms, &nodes, at, &inputs, room))?;
+        let value = value_along(terms, &nodes, at, &inputs, room);
+        table.push(value)?;
     }
     Ok(table)
 }

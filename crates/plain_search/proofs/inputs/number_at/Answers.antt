@@ -1,20 +1,19 @@
-use Rattle.std.proofs.Common.{◌≡◌, ◌<◌, ◌≤◌, arith, sym, subst, ◌∙◌, length, map, ℕ, ◌^◌, sum_by}
+use Rattle.std.proofs.Common.{◌≡◌, false, ◌<◌, ◌≤◌, arith, sym, subst, ◌∙◌, length, map, ℕ, ◌^◌, sum_by}
+use Rattle.bv_terms.specs.declared.value.Sort.TheVariants as sort
+use Rattle.bv_terms.specs.declared.value.Value.TheVariants as val
 use Rattle.bv_terms.specs.Sorts.{width_of}
 use Rattle.plain_search.specs.Cases.{input_at}
 use Rattle.plain_search.proofs.InputLemmas.{ArePicked, IsDigit, length-picked, number_from-end, number_step, number_step-fits, number_whole, width-few, inputs_number_lt}
 use Rattle.plain_search.proofs.inputs.number_at.Goals as goal
 
-
-
-
-abbrev digit : (c : goal.After-width) → IsDigit c.args.sorts.now c.args.inputs.now c.args.places.now c.loop-k.k c.loop-k.number c.from.result c.number_of-digit.result c.width.result _ _
+abbrev digit : (c : goal.After-width) → IsDigit c.args.sorts.now c.args.inputs.now c.args.places.now c.loop-k.k c.loop-k.number c.from.result c.number_of-digit.result c.width.result sort.Bool (val.Bool false)
 digit c = record {
   some = c.loop-k-test.true;
   within = c.loop-k.auto.k;
-  number = c.loop-k.invariant;
-  from = c.from.ensures;
-  digit = c.number_of-digit.ensures;
-  width = c.width.ensures;
+  so_far = c.loop-k.invariant;
+  place = c.from.ensures;
+  read = c.number_of-digit.ensures;
+  wide = c.width.ensures;
 }
 
 pub loop-k-init : goal.loop-k-init
@@ -45,10 +44,10 @@ loop-k-preserved c =
     (record {
       some = c.loop-k-test.true;
       within = c.loop-k.auto.k;
-      number = c.loop-k.invariant;
-      from = c.from.ensures;
-      digit = c.number_of-digit.ensures;
-      width = c.width.ensures;
+      so_far = c.loop-k.invariant;
+      place = c.from.ensures;
+      read = c.number_of-digit.ensures;
+      wide = c.width.ensures;
     })
 
 pub returns-clause-number : goal.returns-clause-number
