@@ -33,14 +33,18 @@ id_eq = ids.eq-value.it
 
 Decides-id_eq : (a b : TermId) → Decides (id_eq a b) (a ≡ b)
 unfolding id_eq
-Decides-id_eq a b = (λ h. ap (λ n. record { 0 = n }) ((Decides-eqb a.0 b.0).0 h), λ e. (Decides-eqb a.0 b.0).1 (ap (λ (i : TermId). i.0) e))
+Decides-id_eq a b = (
+  λ h. ap (λ n. record { 0 = n }) ((Decides-eqb a.0 b.0).0 h),
+  λ e. (Decides-eqb a.0 b.0).1 (ap (λ (i : TermId). i.0) e),
+)
 
 pub node_eq-sound : (a b : Node) → node_eq a b ≡ true → a ≡ b
 unfolding id_eq
 node_eq-sound a b h =
     let parts = and_parts (op_eq a.op b.op) (pointwise id_eq a.args b.args) h in
     ap (λ o. record { op = o; args = a.args }) (op_eq-sound a.op b.op parts.0)
-    ∙ ap (λ args. record { op = b.op; args = args }) ((slice_eq-Decides Decides-id_eq a.args b.args (pointwise id_eq a.args b.args) refl).0 parts.1)
+    ∙ ap (λ args. record { op = b.op; args = args })
+    ((slice_eq-Decides Decides-id_eq a.args b.args (pointwise id_eq a.args b.args) refl).0 parts.1)
 
 pub node_eq-refl : (a : Node) → node_eq a a ≡ true
 node_eq-refl a = node_eq-laws.refl a

@@ -1,5 +1,7 @@
 -- What is known of a well-sorted term: its sort has a width from 1 to 64, and its value is of its sort.
-use Rattle.std.proofs.Common.{slice_get, zero, suc, ◌≡◌, ℕ, ◌^◌, ◌<◌, ◌≤◌, Bool, true, false, cond, ◌&&◌, nat_lt, eqb, List, [], ◌∷◌, length, unwrap_or, Option, None, Some, option_and_then, refl, sym, ap, ◌∙◌, subst, arith}
+use Rattle.std.proofs.Common.{slice_get, zero, suc, ◌≡◌, ℕ, ◌^◌, ◌<◌, ◌≤◌, Bool, true, false, cond, ◌&&◌, nat_lt, eqb}
+use Rattle.std.proofs.Common.{List, [], ◌∷◌, length, unwrap_or, Option, None, Some, option_and_then, refl, sym, ap, ◌∙◌}
+use Rattle.std.proofs.Common.{subst, arith}
 use Rattle.std.proofs.lemmas.Bool.Decides.{Decides-eqb, nat_tests}
 use Rattle.std.proofs.lemmas.Nat.{pow_pos, mod_below}
 use Rattle.std.proofs.lemmas.Option.{same_Some}
@@ -12,7 +14,9 @@ use Rattle.bv_terms.specs.declared.value.Sort.TheVariants as sort
 use Rattle.bv_terms.specs.declared.value.Value.{Value}
 use Rattle.bv_terms.specs.declared.value.Value.TheVariants as val
 use Rattle.bv_terms.specs.Term.{Term, Operands, Apply, End, Then, bits, op_value, value, values}
-use Rattle.bv_terms.specs.Sorts.{HasSort, HaveSorts, arity, is_width, is_indexed, same_sort, misfit, fault_of, refusal, result_sort, op_sort, sort_unless, sort_of, sorts_of, IsSized, AreSized, InputFits, InputsFit, AllInputsFit}
+use Rattle.bv_terms.specs.Sorts.{HasSort, HaveSorts, arity, is_width, is_indexed, same_sort, misfit, fault_of, refusal}
+use Rattle.bv_terms.specs.Sorts.{result_sort, op_sort, sort_unless, sort_of, sorts_of, IsSized, AreSized, InputFits}
+use Rattle.bv_terms.specs.Sorts.{InputsFit, AllInputsFit}
 
 -- an operation may stand over arguments of these sorts
 pub record IsFitting (o : Op) (ss : List Sort) : Type 0 where
@@ -28,7 +32,8 @@ fault_of-none : (o : Op) (r : Option ℕ) → fault_of o r ≡ None → (r ≡ N
 fault_of-none o None h = (refl, unless_true (is_indexed o) fault.Index h)
 fault_of-none o (Some place) h = cc
 
-fitting_at : (o : Op) (ss : List Sort) (b : Bool) → eqb (length ss) (arity o) ≡ b → cond b (fault_of o (misfit ss)) (Some fault.Arity) ≡ None → IsFitting o ss
+fitting_at : (o : Op) (ss : List Sort) (b : Bool) → eqb (length ss) (arity o) ≡ b
+    → cond b (fault_of o (misfit ss)) (Some fault.Arity) ≡ None → IsFitting o ss
 fitting_at o ss true e h =
     let parts = fault_of-none o (misfit ss) h in
     record { arity = (Decides-eqb (length ss) (arity o)).0 e; fit = parts.0; indexed = parts.1 }
@@ -105,7 +110,9 @@ mutual
   pub sort_of-sized : (t : Term) (s : Sort) → sort_of t ≡ Some s → IsSized s
   sort_of-sized (Apply o ts) s h =
       let sorted = IsSorted-of o ts s h in
-      subst IsSized sorted.result (result_sort-sized o sorted.sorts (IsFitting-of o sorted.sorts sorted.fits) (sorts_of-sized ts sorted.sorts sorted.of_args))
+      subst IsSized sorted.result
+      (result_sort-sized o sorted.sorts (IsFitting-of o sorted.sorts sorted.fits)
+      (sorts_of-sized ts sorted.sorts sorted.of_args))
 
   pub sorts_of-sized : (ts : Operands) (ss : List Sort) → sorts_of ts ≡ Some ss → AreSized ss
   sorts_of-sized End ss h = subst AreSized (same_Some [] ss h) tt
@@ -135,12 +142,14 @@ word_of : (w : ℕ) (v : Value) → HasSort (sort.Bits w) v → (n : ℕ) × (v 
 word_of w (val.Bool b) h = absurd h
 word_of w (val.Bits v n) h = (n, ap (λ v. val.Bits v n) h.0, h.1)
 
-one_value : (w : ℕ) (vs : List Value) → HaveSorts (sort.Bits w ∷ []) vs → (n : ℕ) × (vs ≡ val.Bits w n ∷ []) × (n < 2 ^ w)
+one_value : (w : ℕ) (vs : List Value) → HaveSorts (sort.Bits w ∷ []) vs
+    → (n : ℕ) × (vs ≡ val.Bits w n ∷ []) × (n < 2 ^ w)
 one_value w [] h = absurd h
 one_value w (v ∷ []) h = let word = word_of w v h.0 in (word.0, ap (λ v. v ∷ []) word.1, word.2)
 one_value w (v ∷ u ∷ vs) h = absurd h.1
 
-pub IsOneWord-of : (ss : List Sort) (vs : List Value) → length ss ≡ 1 → misfit ss ≡ None → HaveSorts ss vs → IsOneWord ss vs
+pub IsOneWord-of : (ss : List Sort) (vs : List Value) → length ss ≡ 1 → misfit ss ≡ None → HaveSorts ss vs
+    → IsOneWord ss vs
 IsOneWord-of [] vs l m h = absurd (omega arith)
 IsOneWord-of (sort.Bool ∷ []) vs l m h = cc
 IsOneWord-of (sort.Bits w ∷ []) vs l m h =
@@ -160,7 +169,8 @@ two_values w v (x ∷ vs) h =
     let second = one_value v vs h.1 in
     (first.0, second.0, ap (λ x. x ∷ vs) first.1 ∙ ap (λ vs. val.Bits w first.0 ∷ vs) second.1, first.2, second.2)
 
-pub IsTwoWords-of : (ss : List Sort) (vs : List Value) → length ss ≡ 2 → misfit ss ≡ None → HaveSorts ss vs → IsTwoWords ss vs
+pub IsTwoWords-of : (ss : List Sort) (vs : List Value) → length ss ≡ 2 → misfit ss ≡ None → HaveSorts ss vs
+    → IsTwoWords ss vs
 IsTwoWords-of [] vs l m h = absurd (omega arith)
 IsTwoWords-of (s ∷ []) vs l m h = absurd (omega arith)
 IsTwoWords-of (sort.Bool ∷ t ∷ []) vs l m h = cc
@@ -193,7 +203,8 @@ constant_fits : (w n : ℕ) → (is_width w && nat_lt n (2 ^ w)) ≡ true → n 
 constant_fits w n h = grind (arith, nat_tests)
 
 one_word_sorted : (inputs : List Value) (o : Op) (ss : List Sort) (vs : List Value) → IsOneWord ss vs
-    → ((w n : ℕ) → (result_sort o (sort.Bits w ∷ []) ≡ sort.Bits w) × ((m : ℕ) × (op_value inputs o (val.Bits w n ∷ []) ≡ bits w m)))
+    → ((w n : ℕ) → (result_sort o (sort.Bits w ∷ []) ≡ sort.Bits w)
+    × ((m : ℕ) × (op_value inputs o (val.Bits w n ∷ []) ≡ bits w m)))
     → HasSort (result_sort o ss) (op_value inputs o vs)
 one_word_sorted inputs o ss vs h says =
     let told = says h.width h.number in
@@ -203,16 +214,19 @@ one_word_sorted inputs o ss vs h says =
     (subst (HasSort (sort.Bits h.width)) (sym told.1.1) (bits-sorted h.width told.1.0))))
 
 two_words_sorted : (inputs : List Value) (o : Op) (ss : List Sort) (vs : List Value) → IsTwoWords ss vs
-    → ((w m n : ℕ) → (result_sort o (sort.Bits w ∷ sort.Bits w ∷ []) ≡ sort.Bits w) × ((k : ℕ) × (op_value inputs o (val.Bits w m ∷ val.Bits w n ∷ []) ≡ bits w k)))
+    → ((w m n : ℕ) → (result_sort o (sort.Bits w ∷ sort.Bits w ∷ []) ≡ sort.Bits w)
+    × ((k : ℕ) × (op_value inputs o (val.Bits w m ∷ val.Bits w n ∷ []) ≡ bits w k)))
     → HasSort (result_sort o ss) (op_value inputs o vs)
 two_words_sorted inputs o ss vs h says =
     let told = says h.width h.first h.second in
     subst (λ ss. HasSort (result_sort o ss) (op_value inputs o vs)) (sym h.sorts)
-    (subst (λ vs. HasSort (result_sort o (sort.Bits h.width ∷ sort.Bits h.width ∷ [])) (op_value inputs o vs)) (sym h.values)
+    (subst (λ vs. HasSort (result_sort o (sort.Bits h.width ∷ sort.Bits h.width ∷ [])) (op_value inputs o vs))
+    (sym h.values)
     (subst (λ s. HasSort s (op_value inputs o (val.Bits h.width h.first ∷ val.Bits h.width h.second ∷ []))) (sym told.0)
     (subst (HasSort (sort.Bits h.width)) (sym told.1.1) (bits-sorted h.width told.1.0))))
 
-pub op_value-sorted : (inputs : List Value) (o : Op) (ss : List Sort) (vs : List Value) → IsFitting o ss → InputFits inputs o → HaveSorts ss vs
+pub op_value-sorted : (inputs : List Value) (o : Op) (ss : List Sort) (vs : List Value) → IsFitting o ss
+    → InputFits inputs o → HaveSorts ss vs
     → HasSort (result_sort o ss) (op_value inputs o vs)
 op_value-sorted inputs (op.Input k s) ss vs f i h =
     let none = no_value ss vs f.arity h in
@@ -220,13 +234,20 @@ op_value-sorted inputs (op.Input k s) ss vs f i h =
     (subst (λ r. HasSort s (unwrap_or r (val.Bool false))) (sym i.1) i.2)
 op_value-sorted inputs (op.Bits w n) ss vs f i h =
     let none = no_value ss vs f.arity h in
-    subst (λ vs. HasSort (sort.Bits w) (op_value inputs (op.Bits w n) vs)) (sym none.1) (refl, constant_fits w n f.indexed)
-op_value-sorted inputs op.BvNot ss vs f i h = one_word_sorted inputs op.BvNot ss vs (IsOneWord-of ss vs f.arity f.fit h) (λ w n. (refl, (_, refl)))
-op_value-sorted inputs op.BvAnd ss vs f i h = two_words_sorted inputs op.BvAnd ss vs (IsTwoWords-of ss vs f.arity f.fit h) (λ w m n. (refl, (_, refl)))
-op_value-sorted inputs op.BvOr ss vs f i h = two_words_sorted inputs op.BvOr ss vs (IsTwoWords-of ss vs f.arity f.fit h) (λ w m n. (refl, (_, refl)))
-op_value-sorted inputs op.BvXor ss vs f i h = two_words_sorted inputs op.BvXor ss vs (IsTwoWords-of ss vs f.arity f.fit h) (λ w m n. (refl, (_, refl)))
-op_value-sorted inputs op.BvAdd ss vs f i h = two_words_sorted inputs op.BvAdd ss vs (IsTwoWords-of ss vs f.arity f.fit h) (λ w m n. (refl, (_, refl)))
-op_value-sorted inputs op.BvSub ss vs f i h = two_words_sorted inputs op.BvSub ss vs (IsTwoWords-of ss vs f.arity f.fit h) (λ w m n. (refl, (_, refl)))
+    subst (λ vs. HasSort (sort.Bits w) (op_value inputs (op.Bits w n) vs)) (sym none.1)
+    (refl, constant_fits w n f.indexed)
+op_value-sorted inputs op.BvNot ss vs f i h =
+    one_word_sorted inputs op.BvNot ss vs (IsOneWord-of ss vs f.arity f.fit h) (λ w n. (refl, (_, refl)))
+op_value-sorted inputs op.BvAnd ss vs f i h =
+    two_words_sorted inputs op.BvAnd ss vs (IsTwoWords-of ss vs f.arity f.fit h) (λ w m n. (refl, (_, refl)))
+op_value-sorted inputs op.BvOr ss vs f i h =
+    two_words_sorted inputs op.BvOr ss vs (IsTwoWords-of ss vs f.arity f.fit h) (λ w m n. (refl, (_, refl)))
+op_value-sorted inputs op.BvXor ss vs f i h =
+    two_words_sorted inputs op.BvXor ss vs (IsTwoWords-of ss vs f.arity f.fit h) (λ w m n. (refl, (_, refl)))
+op_value-sorted inputs op.BvAdd ss vs f i h =
+    two_words_sorted inputs op.BvAdd ss vs (IsTwoWords-of ss vs f.arity f.fit h) (λ w m n. (refl, (_, refl)))
+op_value-sorted inputs op.BvSub ss vs f i h =
+    two_words_sorted inputs op.BvSub ss vs (IsTwoWords-of ss vs f.arity f.fit h) (λ w m n. (refl, (_, refl)))
 
 no_operands : (ts : Operands) (ss : List Sort) → sorts_of ts ≡ Some ss → length ss ≡ 0 → ts ≡ End
 no_operands End ss h l = refl
@@ -235,10 +256,12 @@ no_operands (Then t ts) ss h l =
     absurd (omega (arith, ap length parts.2))
 
 -- the inputs of a term fit where its own does and those of its operands do
-pub InputsFit-parts : (inputs : List Value) (o : Op) (ts : Operands) (ss : List Sort) → sorts_of ts ≡ Some ss → IsFitting o ss → InputsFit inputs (Apply o ts)
+pub InputsFit-parts : (inputs : List Value) (o : Op) (ts : Operands) (ss : List Sort) → sorts_of ts ≡ Some ss
+    → IsFitting o ss → InputsFit inputs (Apply o ts)
     → InputFits inputs o × AllInputsFit inputs ts
 unfolding InputsFit
-InputsFit-parts inputs (op.Input k s) ts ss e f h = (h, subst (AllInputsFit inputs) (sym (no_operands ts ss e f.arity)) tt)
+InputsFit-parts inputs (op.Input k s) ts ss e f h =
+    (h, subst (AllInputsFit inputs) (sym (no_operands ts ss e f.arity)) tt)
 InputsFit-parts inputs (op.Bits w n) ts ss e f h = (tt, h)
 InputsFit-parts inputs op.BvNot ts ss e f h = (tt, h)
 InputsFit-parts inputs op.BvAnd ts ss e f h = (tt, h)
@@ -251,15 +274,18 @@ InputsFit-parts inputs op.BvSub ts ss e f h = (tt, h)
 mutual
   unfolding sort_of value InputsFit
 
-  pub value-sorted : (inputs : List Value) (t : Term) (s : Sort) → sort_of t ≡ Some s → InputsFit inputs t → HasSort s (value inputs t)
+  pub value-sorted : (inputs : List Value) (t : Term) (s : Sort) → sort_of t ≡ Some s → InputsFit inputs t
+      → HasSort s (value inputs t)
   value-sorted inputs (Apply o ts) s h i =
       let sorted = IsSorted-of o ts s h in
       let fits = IsFitting-of o sorted.sorts sorted.fits in
       let parts = InputsFit-parts inputs o ts sorted.sorts sorted.of_args fits i in
       subst (λ s. HasSort s (op_value inputs o (values inputs ts))) sorted.result
-      (op_value-sorted inputs o sorted.sorts (values inputs ts) fits parts.0 (values-sorted inputs ts sorted.sorts sorted.of_args parts.1))
+      (op_value-sorted inputs o sorted.sorts (values inputs ts) fits parts.0
+      (values-sorted inputs ts sorted.sorts sorted.of_args parts.1))
 
-  pub values-sorted : (inputs : List Value) (ts : Operands) (ss : List Sort) → sorts_of ts ≡ Some ss → AllInputsFit inputs ts → HaveSorts ss (values inputs ts)
+  pub values-sorted : (inputs : List Value) (ts : Operands) (ss : List Sort) → sorts_of ts ≡ Some ss
+      → AllInputsFit inputs ts → HaveSorts ss (values inputs ts)
   values-sorted inputs End ss h i = subst (λ ss. HaveSorts ss []) (same_Some [] ss h) tt
   values-sorted inputs (Then t ts) ss h i =
       let parts = sorts_of-some t ts ss h in
@@ -269,7 +295,8 @@ mutual
 -- ---- sorts one by one
 
 -- the value in a place is of the sort in that place
-pub HaveSorts-at : (ss : List Sort) (vs : List Value) → HaveSorts ss vs → (k : ℕ) (s : Sort) → slice_get ss k ≡ Some s → (v : Value) × (slice_get vs k ≡ Some v) × HasSort s v
+pub HaveSorts-at : (ss : List Sort) (vs : List Value) → HaveSorts ss vs → (k : ℕ) (s : Sort) → slice_get ss k ≡ Some s
+    → (v : Value) × (slice_get vs k ≡ Some v) × HasSort s v
 HaveSorts-at [] vs h k s e = cc
 HaveSorts-at (t ∷ ss) [] h k s e = absurd h
 HaveSorts-at (t ∷ ss) (v ∷ vs) h zero s e = (v, refl, subst (λ s. HasSort s v) (same_Some t s e) h.0)

@@ -18,7 +18,8 @@ entry_of n = record { op = n.op; args = take (arity n.op) n.args }
 abbrev pub table_of : ℕ → List (Node × Sort) → Table
 table_of pointer kept = record { pointer = pointer; nodes = map (λ e. entry_of e.0) kept }
 
--- what nodes with their sorts keep: they make a table, unused places have node 0, and each sort is that of the node's term
+-- what nodes with their sorts keep: they make a table, unused places have node 0, and each sort is that of the node's
+-- term
 pub record IsTermTable (pointer : ℕ) (kept : List (Node × Sort)) : Type 0 where
   pub table : IsTable (table_of pointer kept)
   pub padded : map (λ e. e.0) kept ≡ map node_of (table_of pointer kept).nodes

@@ -1,5 +1,7 @@
--- Which values are of a sort, and which terms are well-sorted. Source: SMT-LIB 2.6, section 5 (the well-sorted terms), logic QF_BV.
-use Rattle.std.specs.Prelude.{◌≡◌, ℕ, ◌^◌, ◌<◌, ◌≤◌, List, [], ◌∷◌, length, Option, Some, None, slice_get, option_and_then, Bool, true, false, ◌&&◌, ◌==◌, nat_lt, nat_le, if◌then◌else◌}
+-- Which values are of a sort, and which terms are well-sorted. Source: SMT-LIB 2.6, section 5 (the well-sorted terms),
+-- logic QF_BV.
+use Rattle.std.specs.Prelude.{◌≡◌, ℕ, ◌^◌, ◌<◌, ◌≤◌, List, [], ◌∷◌, length, Option, Some, None, slice_get}
+use Rattle.std.specs.Prelude.{option_and_then, Bool, true, false, ◌&&◌, ◌==◌, nat_lt, nat_le, if◌then◌else◌}
 use Rattle.bv_terms.specs.declared.op.Op.{Op}
 use Rattle.bv_terms.specs.declared.op.Op.TheVariants as op
 use Rattle.bv_terms.specs.declared.op.MakeFault.{MakeFault}

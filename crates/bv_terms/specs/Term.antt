@@ -1,5 +1,6 @@
 -- Terms as trees, and their values. Source: SMT-LIB 2.6, theories Core and FixedSizeBitVectors, logic QF_BV.
-use Rattle.std.specs.Prelude.{ℕ, ◌+◌, ◌-◌, ◌^◌, ◌%◌, List, [], ◌∷◌, slice_get, bit_and, bit_or, bit_xor, unwrap_or, false}
+use Rattle.std.specs.Prelude.{ℕ, ◌+◌, ◌-◌, ◌^◌, ◌%◌, List, [], ◌∷◌, slice_get, bit_and, bit_or, bit_xor, unwrap_or}
+use Rattle.std.specs.Prelude.{false}
 use Rattle.bv_terms.specs.declared.op.Op.{Op}
 use Rattle.bv_terms.specs.declared.op.Op.TheVariants as op
 use Rattle.bv_terms.specs.declared.value.Value.{Value}

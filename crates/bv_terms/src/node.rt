@@ -1,3 +1,6 @@
+//! A node as the table looks it up. The places of arguments that its operation doesn't use have node 0, so that
+//! equal nodes are equal values.
+
 ghost use Rattle.std.specs.Prelude.{◌≡◌, ◌<◌, ◌≤◌, length, take, slice_get, Some};
 ghost use Rattle.bv_terms.specs.Sorts.{arity};
 ghost use Rattle.bv_terms.specs.Node.{node_of};

@@ -1,3 +1,6 @@
+//! Operations, their arities and sorts, and the faults of making a node. The first fault counts: that of the number
+//! of arguments, then that of their sorts, then that of an index.
+
 ghost use Rattle.std.specs.Prelude.{◌≡◌, MatchOption};
 ghost use Rattle.bv_terms.specs.Sorts.{arity, is_indexed, is_width, misfit, refusal, result_sort};
 
@@ -36,7 +39,7 @@ pub enum MakeFault {
     Sorts { place: u32 },
     /// The width of an input or a constant is not 1 to 64, or a constant is 2^width or more.
     Index,
-    /// Want of memory.
+    /// Out of memory.
     NoMemory,
 }
 
@@ -65,7 +68,8 @@ impl Op {
 
     /// The sort of the operation over arguments of these sorts, or why it cannot stand over them.
     pub(crate) fn sort_over(&self, sorts: &[Sort]) -> Result<Sort, MakeFault>
-        ensures { MatchOption (refusal self.now sorts.now) (result ≡ Ok (result_sort self.now sorts.now)) (λ f. result ≡ Err f) }
+        ensures { MatchOption (refusal self.now sorts.now)
+            (result ≡ Ok (result_sort self.now sorts.now)) (λ f. result ≡ Err f) }
     {
         if sorts.len() != self.arity() {
             return Err(MakeFault::Arity);

@@ -1,3 +1,6 @@
+//! The table of terms. Each node stands over earlier ones, is well-sorted and stands there once; so nodes denote
+//! terms one to one.
+
 ghost use Rattle.std.specs.Prelude.{◌≡◌, ◌<◌, ◌≤◌, [], length, slice_get, All, Contains};
 ghost use Rattle.std.specs.Prelude.{None, Some, IfOk, IfErr, OnOk, OnErr, MatchOption, MatchResult};
 ghost use Rattle.bv_terms.specs.declared.value.Sort.{Sort};
@@ -100,7 +103,8 @@ impl Terms {
         ensures within { IfOk result (λ id. id.0 < length self.new.nodes) }
         ensures kept { (at : TermId) → at.0 < length self.old.nodes → term_at self.new at ≡ term_at self.old at }
         ensures term { IfOk result (λ id. term_at self.new id ≡ Apply op (operands (terms_of self.old) args.now)) }
-        ensures sort { IfOk result (λ id. sort_of (term_at self.new id) ≡ sort_of (Apply op (operands (terms_of self.old) args.now))) }
+        ensures sort { IfOk result
+            (λ id. sort_of (term_at self.new id) ≡ sort_of (Apply op (operands (terms_of self.old) args.now))) }
     {
         let sort = self.sort_over(op, args)?;
         let node = Node::new(op, args);
@@ -197,7 +201,7 @@ impl Terms {
         }
     }
 
-    /// Adds a node that is not there. An `Err` is want of memory; it leaves the table as it was.
+    /// Adds a node that is not there. An `Err` is out of memory; it leaves the table as it was.
     fn add(&mut self, node: Node, sort: Sort) -> Result<TermId, MakeFault>
         requires padded { node ≡ node_of (entry_of node) }
         requires earlier { All (λ a. a.0 < length self.old.nodes) (entry_of node).args }

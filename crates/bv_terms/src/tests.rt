@@ -1,4 +1,7 @@
+//! Tests: the fault that `make` tells, values by the standard, and the nodes of subterms with their values.
+
 ghost use Rattle.std.specs.Prelude.{◌<◌, length, IsTrue};
+ghost use Rattle.bv_terms.specs.declared.op.TermId.{TermId};
 ghost use Rattle.bv_terms.specs.Sorts.{HasSort, InputFits, InputsFit};
 ghost use Rattle.bv_terms.specs.Table.{term_at};
 
@@ -17,113 +20,97 @@ fn make(terms: &mut Terms, op: Op, args: &[TermId]) -> Option<Result<TermId, Mak
     }
 }
 
+fn input(number: u32, sort: Sort) -> Op {
+    Op::Input { number, sort }
+}
+
+/// Whether the table's nodes are these operations, each over no arguments.
+fn are_nodes(terms: &Terms, ops: &[Op]) -> bool {
+    let len = terms.len();
+    if len != ops.len() {
+        return false;
+    }
+    for place in 0..len {
+        let (op, args) = terms.node(TermId(place));
+        if *op != ops[place] || args.len() != 0 {
+            return false;
+        }
+    }
+    true
+}
+
 #[test]
 fn make_tells_the_first_fault(rt: HostRuntime) -> Result<(), Fail> {
-    let narrow = Op::Input {
-        number: 0,
-        sort: Sort::Bits(8),
-    };
-    let wide = Op::Input {
-        number: 1,
-        sort: Sort::Bits(16),
-    };
-    let truth = Op::Input {
-        number: 2,
-        sort: Sort::Bool,
-    };
-    let none: &[TermId] = &[];
+    let inputs = [
+        input(0, Sort::Bits(8)),
+        input(1, Sort::Bits(16)),
+        input(2, Sort::Bool),
+    ];
     let mut terms = Terms::new(rt.alloc(), 32);
-    for op in [narrow, wide, truth] {
-        terms.make(op, none)?;
+    for op in inputs {
+        terms.make(op, &[])?;
     }
-    let both = [TermId(0), TermId(1), TermId(2)];
-    for (op, args, fault) in [
+    let (narrow, wide, truth) = (TermId(0), TermId(1), TermId(2));
+    for (case, op, args, fault) in [
         (
+            "two widths",
             Op::BvAdd,
-            [TermId(0), TermId(1)].as_slice(),
+            [narrow, wide].as_slice(),
             MakeFault::Sorts { place: 1 },
         ),
         (
+            "no bit-vector first",
             Op::BvAdd,
-            [TermId(2), TermId(1)].as_slice(),
+            [truth, wide].as_slice(),
             MakeFault::Sorts { place: 0 },
         ),
         (
-            Op::BvAdd,
-            [TermId(0), TermId(2)].as_slice(),
+            "no bit-vector second",
+            Op::BvAnd,
+            [narrow, truth].as_slice(),
             MakeFault::Sorts { place: 1 },
         ),
         (
-            Op::BvNot,
-            [TermId(2)].as_slice(),
-            MakeFault::Sorts { place: 0 },
-        ),
-        (
-            Op::BvNot,
-            [TermId(0), TermId(0)].as_slice(),
+            "too many arguments",
+            Op::BvXor,
+            [narrow, wide, truth].as_slice(),
             MakeFault::Arity,
         ),
-        (Op::BvXor, both.as_slice(), MakeFault::Arity),
-        (Op::BvSub, none, MakeFault::Arity),
-        (narrow, [TermId(0)].as_slice(), MakeFault::Arity),
+        ("no argument", Op::BvNot, [].as_slice(), MakeFault::Arity),
         (
-            Op::Input {
-                number: 0,
-                sort: Sort::Bits(0),
-            },
-            none,
+            "an input of width 0",
+            input(0, Sort::Bits(0)),
+            [].as_slice(),
             MakeFault::Index,
         ),
         (
-            Op::Input {
-                number: 0,
-                sort: Sort::Bits(65),
-            },
-            none,
+            "an input of width 65",
+            input(0, Sort::Bits(65)),
+            [].as_slice(),
             MakeFault::Index,
         ),
         (
+            "2^width",
             Op::Bits {
                 width: 8,
                 number: 256,
             },
-            none,
-            MakeFault::Index,
-        ),
-        (
-            Op::Bits {
-                width: 0,
-                number: 0,
-            },
-            none,
-            MakeFault::Index,
-        ),
-        (
-            Op::Bits {
-                width: 65,
-                number: 0,
-            },
-            none,
+            [].as_slice(),
             MakeFault::Index,
         ),
     ] {
-        assert_eq!(rt;
-            make(&mut terms, op, args),
-            Some(Err(fault)),
-            "{op:?} over {args:?}"
-        );
-        assert_eq!(rt; terms.len(), 3);
+        assert_eq!(rt; make(&mut terms, op, args), Some(Err(fault)), "{case}");
+        assert!(rt; are_nodes(&terms, &inputs), "{case}");
     }
     Ok(())
 }
 
-/// Whether each input among the nodes up to this one has a value of its sort.
-fn inputs_fit(terms: &Terms, at: TermId, env: &Env) -> bool
-    requires { at.0 < length terms.now.nodes }
-    ensures { IsTrue result → InputsFit env.now.values (term_at terms.now at) }
+/// Whether each input in the table has a value of its sort.
+fn inputs_fit(terms: &Terms, env: &Env) -> bool
+    ensures { IsTrue result → (at : TermId) → at.0 < length terms.now.nodes
+        → InputsFit env.now.values (term_at terms.now at) }
 {
-    let _ = terms.len();
-    for place in 0..at.0 + 1 {
+    for place in 0..terms.len() {
         let (op, _) = terms.node(TermId(place));
         if !input_fits(op, env.values.as_slice()) {
             return false;
@@ -159,51 +146,75 @@ fn has_sort(value: Value, sort: Sort) -> bool
 #[test]
 fn eval_follows_the_standard(rt: HostRuntime) -> Result<(), Fail> {
     let max = u64::MAX;
-    for (width, op, s, t, number) in [
-        (8, Op::BvNot, 0x00, 0, 0xff),
-        (8, Op::BvNot, 0xff, 0, 0x00),
-        (8, Op::BvNot, 0x5a, 0, 0xa5),
-        (8, Op::BvAnd, 0xf0, 0x3c, 0x30),
-        (8, Op::BvOr, 0xf0, 0x3c, 0xfc),
-        (8, Op::BvXor, 0xf0, 0x3c, 0xcc),
-        (8, Op::BvAdd, 0xff, 0x01, 0x00),
-        (8, Op::BvAdd, 0x80, 0x81, 0x01),
-        (8, Op::BvSub, 0x00, 0x01, 0xff),
-        (8, Op::BvSub, 0x05, 0xff, 0x06),
-        (64, Op::BvNot, 0, 0, max),
-        (64, Op::BvNot, max, 0, 0),
-        (64, Op::BvAnd, max, 1 << 63, 1 << 63),
-        (64, Op::BvOr, 1, 1 << 63, (1 << 63) + 1),
-        (64, Op::BvXor, max, 1, max - 1),
-        (64, Op::BvAdd, max, 1, 0),
-        (64, Op::BvAdd, 1 << 63, 1 << 63, 0),
-        (64, Op::BvSub, 0, 1, max),
-        (64, Op::BvSub, 1, max, 2),
+    for (case, op, width, s, t, number) in [
+        ("not", Op::BvNot, 8, 0x5a, 0, 0xa5),
+        ("and", Op::BvAnd, 8, 0xf0, 0x3c, 0x30),
+        ("or", Op::BvOr, 8, 0xf0, 0x3c, 0xfc),
+        ("xor", Op::BvXor, 8, 0xf0, 0x3c, 0xcc),
+        ("sum", Op::BvAdd, 8, 0x80, 0x81, 0x01),
+        ("difference", Op::BvSub, 8, 0x05, 0xff, 0x06),
+        ("not, 64 bits", Op::BvNot, 64, 0, 0, max),
+        ("sum, 64 bits", Op::BvAdd, 64, max, 1, 0),
+        ("difference, 64 bits", Op::BvSub, 64, 0, 1, max),
     ] {
-        let none: &[TermId] = &[];
         let sort = Sort::Bits(width);
         let mut terms = Terms::new(rt.alloc(), 32);
-        let first = terms.make(Op::Input { number: 0, sort }, none)?;
-        let second = terms.make(Op::Bits { width, number: t }, none)?;
+        let first = terms.make(input(0, sort), &[])?;
+        let second = terms.make(Op::Bits { width, number: t }, &[])?;
         let args = [first, second];
         let made = make(&mut terms, op, &args[..op.arity().min(2)]);
-        let again = make(&mut terms, op, &args[..op.arity().min(2)]);
-        assert_eq!(rt; made, Some(Ok(TermId(2))));
-        assert_eq!(rt; again, made);
-        let values = vec![in rt.alloc(); Value::Bits { width, number: s }]?;
+        assert_eq!(rt; made, Some(Ok(TermId(2))), "{case}");
         let env = Env {
-            values: Seq::from_vec(values),
+            values: Seq::from_vec(vec![in rt.alloc(); Value::Bits { width, number: s }]?),
         };
         let mut room = [Value::Bool(false); 3];
-        let at = TermId(2);
-        assert!(rt; at.0 < terms.len() && terms.len() <= 3);
-        assert!(rt; inputs_fit(&terms, at, &env));
-        let value = terms.eval(at, &env, &mut room);
-        assert_eq!(rt;
-            value,
-            Value::Bits { width, number },
-            "{op:?} at {s} and {t}"
-        );
+        assert!(rt; 2 < terms.len() && terms.len() <= 3 && inputs_fit(&terms, &env));
+        let value = terms.eval(TermId(2), &env, &mut room);
+        assert_eq!(rt; value, Value::Bits { width, number }, "{case}");
     }
+    Ok(())
+}
+
+/// Nodes 0, 1, 3 and 5 are those of the last one's subterms; 2 and 4 stand between and are none.
+#[test]
+fn only_nodes_of_subterms_are_evaluated(rt: HostRuntime) -> Result<(), Fail> {
+    let width = 8;
+    let mut terms = Terms::new(rt.alloc(), 32);
+    for (op, args) in [
+        (input(0, Sort::Bits(8)), [].as_slice()),
+        (Op::Bits { width, number: 3 }, [].as_slice()),
+        (input(1, Sort::Bits(8)), [].as_slice()),
+        (Op::BvAdd, [TermId(0), TermId(1)].as_slice()),
+        (Op::BvOr, [TermId(2), TermId(3)].as_slice()),
+        (Op::BvXor, [TermId(3), TermId(0)].as_slice()),
+    ] {
+        make(&mut terms, op, args);
+    }
+    let results = [TermId(5)];
+    assert!(rt; terms.len() == 6);
+    let nodes = terms.subterms(rt.alloc(), &results)?;
+    assert_eq!(rt;
+        nodes.as_slice(),
+        [TermId(0), TermId(1), TermId(3), TermId(5)].as_slice()
+    );
+    let env = Env {
+        values: Seq::from_vec(vec![in rt.alloc();
+            Value::Bits { width, number: 6 },
+            Value::Bits { width, number: 0 },
+        ]?),
+    };
+    assert!(rt; inputs_fit(&terms, &env));
+    let mut room = [Value::Bool(true); 6];
+    terms.eval_nodes(&nodes, &env, &mut room);
+    let bits = [6, 3, 9, 15].map(|number| Value::Bits { width, number });
+    let wanted = [
+        bits[0],
+        bits[1],
+        Value::Bool(true),
+        bits[2],
+        Value::Bool(true),
+        bits[3],
+    ];
+    assert_eq!(rt; room, wanted);
     Ok(())
 }

@@ -1,3 +1,5 @@
+//! Sorts and values: truth values and bit-vectors of 1 to 64 bits, as numbers below 2^width.
+
 ghost use Rattle.std.specs.Prelude.{◌≡◌, ◌-◌, ◌^◌, ◌≤◌, min};
 
 use collections::Seq;

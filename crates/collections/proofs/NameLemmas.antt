@@ -1,5 +1,7 @@
 -- What a table of names has, by the bytes of the names.
-use Rattle.std.proofs.Common.{◌≡◌, ℕ, zero, suc, slice_index_or, ◌<◌, Bool, true, false, cond, List, [], ◌∷◌, ◌++◌, map, Option, None, Some, is_some, Contains, Decides, String, refl, sym, ap, ◌∙◌, subst, ⊎_elim, arith}
+use Rattle.std.proofs.Common.{◌≡◌, ℕ, zero, suc, slice_index_or, ◌<◌, Bool, true, false, cond, List, [], ◌∷◌, ◌++◌, map}
+use Rattle.std.proofs.Common.{Option, None, Some, is_some, Contains, Decides, String, refl, sym, ap, ◌∙◌, subst, ⊎_elim}
+use Rattle.std.proofs.Common.{arith}
 use Rattle.std.specs.Map.{lookup}
 use Rattle.std.specs.Str.{bytes_eq}
 use Rattle.std.specs.String.{string_bytes, string_eq}
@@ -30,20 +32,25 @@ module _ {Y T : Type 0} where
   found es bs = lookup (λ k. bytes_eq bs (string_bytes k)) es
 
   -- one more entry in front
-  step : (e : String Y × T) (es : List (String Y × T)) (bs : List ℕ) (b : Bool) → bytes_eq bs (string_bytes e.0) ≡ b → Decides (is_some (found es bs)) (Contains (names (pairs es)) bs)
+  step : (e : String Y × T) (es : List (String Y × T)) (bs : List ℕ) (b : Bool) → bytes_eq bs (string_bytes e.0) ≡ b
+      → Decides (is_some (found es bs)) (Contains (names (pairs es)) bs)
       → Decides (is_some (cond b (Some e.1) (found es bs))) (Contains (string_bytes e.0 ∷ names (pairs es)) bs)
   step e es bs true same rest = (
-    λ _. subst (Contains (string_bytes e.0 ∷ names (pairs es))) (sym ((bytes_eq-Decides bs (string_bytes e.0)).0 same)) (Contains-get_or (string_bytes e.0 ∷ names (pairs es)) 0 bs (omega arith)),
+    λ _. subst (Contains (string_bytes e.0 ∷ names (pairs es))) (sym ((bytes_eq-Decides bs (string_bytes e.0)).0 same))
+        (Contains-get_or (string_bytes e.0 ∷ names (pairs es)) 0 bs (omega arith)),
     λ _. refl,
   )
   step e es bs false other rest = (
     λ t. Contains-append_right (string_bytes e.0 ∷ []) (names (pairs es)) bs (rest.0 t),
-    λ w. ⊎_elim (λ here. absurd (false≢true (sym other ∙ (bytes_eq-Decides bs (string_bytes e.0)).1 (sym (Contains-one (string_bytes e.0) bs here))))) rest.1
+    λ w. ⊎_elim (λ here. absurd
+        (false≢true (sym other
+        ∙ (bytes_eq-Decides bs (string_bytes e.0)).1 (sym (Contains-one (string_bytes e.0) bs here))))) rest.1
         (Contains-append_cases (string_bytes e.0 ∷ []) (names (pairs es)) bs w),
   )
 
   -- a look-up finds exactly the bytes that are a name
-  pub Decides-found : (es : List (String Y × T)) (bs : List ℕ) → Decides (is_some (found es bs)) (Contains (names (pairs es)) bs)
+  pub Decides-found : (es : List (String Y × T)) (bs : List ℕ)
+      → Decides (is_some (found es bs)) (Contains (names (pairs es)) bs)
   Decides-found [] bs = (λ e. absurd (false≢true e), λ w. absurd (omega (arith, w.1)))
   Decides-found (e ∷ es) bs = step e es bs (bytes_eq bs (string_bytes e.0)) refl (Decides-found es bs)
 
@@ -54,11 +61,14 @@ module _ {Y T : Type 0} where
       by None e = refl
       by (Some v) e = absurd (new ((Decides-found es bs).0 (ap is_some e)))
 
-  pub pairs-append : (es : List (String Y × T)) (k : String Y) (v : T) → pairs (es ++ (k, v) ∷ []) ≡ pairs es ++ (string_bytes k, v) ∷ []
+  pub pairs-append : (es : List (String Y × T)) (k : String Y) (v : T)
+      → pairs (es ++ (k, v) ∷ []) ≡ pairs es ++ (string_bytes k, v) ∷ []
   pairs-append [] k v = refl
   pairs-append (e ∷ es) k v = ap (λ ps. (string_bytes e.0, e.1) ∷ ps) (pairs-append es k v)
 
   -- a new name goes last
-  pub pairs-insert : {S : Type 0} (m : IndexMap (String Y) T S) (k : String Y) (v : T) → ¬ (Contains (names (pairs m.entries)) (string_bytes k))
+  pub pairs-insert : {S : Type 0} (m : IndexMap (String Y) T S) (k : String Y) (v : T)
+      → ¬ (Contains (names (pairs m.entries)) (string_bytes k))
       → pairs (insert_entry string_eq m.entries k v) ≡ pairs m.entries ++ (string_bytes k, v) ∷ []
-  pairs-insert m k v new = ap pairs (insert_entry-new string_eq m k v (found-none m.entries (string_bytes k) new)) ∙ pairs-append m.entries k v
+  pairs-insert m k v new = ap pairs (insert_entry-new string_eq m k v (found-none m.entries (string_bytes k) new))
+      ∙ pairs-append m.entries k v

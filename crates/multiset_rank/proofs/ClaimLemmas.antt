@@ -1,14 +1,20 @@
 -- The list of claims: its order, its members, how long it is, and what stands where.
-use Rattle.std.proofs.Common.{◌≡◌, ℕ, ◌+◌, ◌<◌, List, [], ◌∷◌, length, map, Some, refl, sym, ap, subst, ◌∙◌, arith, inl, inr, slice_get}
+use Rattle.std.proofs.Common.{◌≡◌, ℕ, ◌+◌, ◌<◌, List, [], ◌∷◌, length, map, Some, refl, sym, ap, subst, ◌∙◌, arith, inl}
+use Rattle.std.proofs.Common.{inr, slice_get}
 use Rattle.std.specs.Prelude.{IsTrue}
 use Rattle.std.specs.List.{flat_map, range_with_len}
 use Rattle.std.specs.declared.cmp.Ordering.TheVariants.{Less, Equal}
 use Rattle.multiset_rank.specs.Multisets.{multisets, never_falls, StandsAt}
 use Rattle.multiset_rank.specs.Claims.{Plan, IsInPlan, claims, claims_of_size, claim_cmp, AreClaims}
-use Rattle.multiset_rank.proofs.ListLemmas.{In, In-from_Contains, Contains-from_In, In-slice_get, In-map, In_of_map, In-flat_map, In_of_flat_map, In-range, In_of_range, IsOrdered, IsOrdered-map, IsOrdered-flat_map, IsOrdered-range, AllPairs-from_ordered, once_in_order}
-use Rattle.multiset_rank.proofs.TupleLemmas.{Before, nat_cmp-same, nat_cmp-less, slice_cmp-same, multisets-ordered, In_of_multisets, In-multisets}
+use Rattle.multiset_rank.proofs.ListLemmas.{In, In-from_Contains, Contains-from_In, In-slice_get, In-map, In_of_map}
+use Rattle.multiset_rank.proofs.ListLemmas.{In-flat_map, In_of_flat_map, In-range, In_of_range, IsOrdered}
+use Rattle.multiset_rank.proofs.ListLemmas.{IsOrdered-map, IsOrdered-flat_map, IsOrdered-range, AllPairs-from_ordered}
+use Rattle.multiset_rank.proofs.ListLemmas.{once_in_order}
+use Rattle.multiset_rank.proofs.TupleLemmas.{Before, nat_cmp-same, nat_cmp-less, slice_cmp-same, multisets-ordered}
+use Rattle.multiset_rank.proofs.TupleLemmas.{In_of_multisets, In-multisets}
 
-pub claims_of_size-flat_map : (p : Plan) (s : ℕ) → claims_of_size p s ≡ flat_map (λ goal. map (λ xs. (goal, xs)) (multisets p.kinds s)) (range_with_len 0 p.goals)
+pub claims_of_size-flat_map : (p : Plan) (s : ℕ)
+    → claims_of_size p s ≡ flat_map (λ goal. map (λ xs. (goal, xs)) (multisets p.kinds s)) (range_with_len 0 p.goals)
 unfolding claims_of_size
 claims_of_size-flat_map p s = refl
 
@@ -23,29 +29,37 @@ of_goal p s goal = map (λ xs. (goal, xs)) (multisets p.kinds s)
 abbrev ClaimBefore : ℕ × List ℕ → ℕ × List ℕ → Type 0
 ClaimBefore a b = claim_cmp a b ≡ Less
 
-In_of_goal : (p : Plan) (s goal : ℕ) (u : ℕ × List ℕ) → In (of_goal p s goal) u → (u.0 ≡ goal) × In (multisets p.kinds s) u.1
+In_of_goal : (p : Plan) (s goal : ℕ) (u : ℕ × List ℕ) → In (of_goal p s goal) u
+    → (u.0 ≡ goal) × In (multisets p.kinds s) u.1
 In_of_goal p s goal u h =
     let r = In_of_map (λ xs. (goal, xs)) (multisets p.kinds s) u h in
     (sym (ap (λ v. v.0) r.2), subst (In (multisets p.kinds s)) (ap (λ v. v.1) r.2) r.1)
 
-In_of_size : (p : Plan) (s : ℕ) (u : ℕ × List ℕ) → In (claims_of_size p s) u → (u.0 < p.goals) × In (multisets p.kinds s) u.1
+In_of_size : (p : Plan) (s : ℕ) (u : ℕ × List ℕ) → In (claims_of_size p s) u
+    → (u.0 < p.goals) × In (multisets p.kinds s) u.1
 In_of_size p s u h =
-    let r = In_of_flat_map (of_goal p s) (range_with_len 0 p.goals) u (subst (λ us. In us u) (claims_of_size-flat_map p s) h) in
+    let r = In_of_flat_map (of_goal p s) (range_with_len 0 p.goals) u
+        (subst (λ us. In us u) (claims_of_size-flat_map p s) h) in
     let g = In_of_goal p s r.0 u r.2 in
     let l = In_of_range 0 p.goals r.0 r.1 in
     (omega (arith, g.0, l.1), g.1)
 
-In-size : (p : Plan) (s goal : ℕ) (xs : List ℕ) → goal < p.goals → In (multisets p.kinds s) xs → In (claims_of_size p s) (goal, xs)
+In-size : (p : Plan) (s goal : ℕ) (xs : List ℕ) → goal < p.goals → In (multisets p.kinds s) xs
+    → In (claims_of_size p s) (goal, xs)
 In-size p s goal xs l h =
     subst (λ us. In us (goal, xs)) (sym (claims_of_size-flat_map p s))
-    (In-flat_map (of_goal p s) (range_with_len 0 p.goals) goal (goal, xs) (In-range 0 p.goals goal (omega arith) (omega (arith, l))) (In-map (λ ys. (goal, ys)) (multisets p.kinds s) xs h))
+    (In-flat_map (of_goal p s) (range_with_len 0 p.goals) goal (goal, xs)
+        (In-range 0 p.goals goal (omega arith) (omega (arith, l)))
+        (In-map (λ ys. (goal, ys)) (multisets p.kinds s) xs h))
 
 long : (p : Plan) (s : ℕ) (xs : List ℕ) → In (multisets p.kinds s) xs → length xs ≡ s
 long p s xs h = (In_of_multisets p.kinds s xs h).0
 
-IsOrdered-within : {X : Type 0} (R S : X → X → Type 0) (xs : List X) → ((x y : X) → In xs x → In xs y → R x y → S x y) → IsOrdered R xs → IsOrdered S xs
+IsOrdered-within : {X : Type 0} (R S : X → X → Type 0) (xs : List X) → ((x y : X) → In xs x → In xs y → R x y → S x y)
+    → IsOrdered R xs → IsOrdered S xs
 IsOrdered-within R S [] k h = tt
-IsOrdered-within R S (x ∷ xs) k h = (λ y i. k x y (inl refl) (inr i) (h.0 y i), IsOrdered-within R S xs (λ a b i j. k a b (inr i) (inr j)) h.1)
+IsOrdered-within R S (x ∷ xs) k h =
+    (λ y i. k x y (inl refl) (inr i) (h.0 y i), IsOrdered-within R S xs (λ a b i j. k a b (inr i) (inr j)) h.1)
 
 -- of one size
 abbrev Follows : List ℕ → List ℕ → Type 0
@@ -77,7 +91,8 @@ ClaimBefore-strict u h =
 goal-ordered : (p : Plan) (s goal : ℕ) → IsOrdered ClaimBefore (of_goal p s goal)
 goal-ordered p s goal =
     IsOrdered-map Follows ClaimBefore (λ xs. (goal, xs)) (ClaimBefore-multiset goal) (multisets p.kinds s)
-    (IsOrdered-within Before Follows (multisets p.kinds s) (λ x y i j b. (b, long p s x i ∙ sym (long p s y j))) (multisets-ordered p.kinds s))
+    (IsOrdered-within Before Follows (multisets p.kinds s) (λ x y i j b. (b, long p s x i ∙ sym (long p s y j)))
+        (multisets-ordered p.kinds s))
 
 size-ordered : (p : Plan) (s : ℕ) → IsOrdered ClaimBefore (claims_of_size p s)
 size-ordered p s =
@@ -99,32 +114,39 @@ claims-ordered p =
     ClaimBefore-size u.0 v.0 u.1 v.1 (omega (arith, l, x, y)))
     (range_with_len 0 (p.bound + 1)) (IsOrdered-range 0 (p.bound + 1)))
 
-In_of_claims : (p : Plan) (goal : ℕ) (xs : List ℕ) → In (claims p) (goal, xs) → IsInPlan p goal xs × IsTrue (never_falls xs)
+In_of_claims : (p : Plan) (goal : ℕ) (xs : List ℕ) → In (claims p) (goal, xs)
+    → IsInPlan p goal xs × IsTrue (never_falls xs)
 In_of_claims p goal xs h =
-    let r = In_of_flat_map (claims_of_size p) (range_with_len 0 (p.bound + 1)) (goal, xs) (subst (λ us. In us (goal, xs)) (claims-flat_map p) h) in
+    let r = In_of_flat_map (claims_of_size p) (range_with_len 0 (p.bound + 1)) (goal, xs)
+        (subst (λ us. In us (goal, xs)) (claims-flat_map p) h) in
     let l = In_of_range 0 (p.bound + 1) r.0 r.1 in
     let s = In_of_size p r.0 (goal, xs) r.2 in
     let m = In_of_multisets p.kinds r.0 xs s.1 in
     (record { goal_below = s.0; size_within = omega (arith, m.0, l.1); kinds_below = m.1 }, m.2)
 
-In-claims : (p : Plan) (goal : ℕ) (xs : List ℕ) → IsInPlan p goal xs → IsTrue (never_falls xs) → In (claims p) (goal, xs)
+In-claims : (p : Plan) (goal : ℕ) (xs : List ℕ) → IsInPlan p goal xs → IsTrue (never_falls xs)
+    → In (claims p) (goal, xs)
 In-claims p goal xs h t =
     let w = h.size_within in
     subst (λ us. In us (goal, xs)) (sym (claims-flat_map p))
-    (In-flat_map (claims_of_size p) (range_with_len 0 (p.bound + 1)) (length xs) (goal, xs) (In-range 0 (p.bound + 1) (length xs) (omega arith) (omega (arith, w)))
+    (In-flat_map (claims_of_size p) (range_with_len 0 (p.bound + 1)) (length xs) (goal, xs)
+        (In-range 0 (p.bound + 1) (length xs) (omega arith) (omega (arith, w)))
     (In-size p (length xs) goal xs h.goal_below (In-multisets p.kinds (length xs) xs refl h.kinds_below t)))
 
 pub claims_law : (p : Plan) → AreClaims p (claims p)
 claims_law p = record {
   rising = AllPairs-from_ordered ClaimBefore (claims p) (claims-ordered p);
-  members = λ goal xs. (λ c. In_of_claims p goal xs (In-from_Contains (claims p) (goal, xs) c), λ h. Contains-from_In (claims p) (goal, xs) (In-claims p goal xs h.0 h.1));
+  members = λ goal xs. (λ c. In_of_claims p goal xs (In-from_Contains (claims p) (goal, xs) c),
+      λ h. Contains-from_In (claims p) (goal, xs) (In-claims p goal xs h.0 h.1));
 }
 
-pub claim_once : (p : Plan) (place : ℕ) (u : ℕ × List ℕ) → slice_get (claims p) place ≡ Some u → StandsAt (claims p) place u
+pub claim_once : (p : Plan) (place : ℕ) (u : ℕ × List ℕ) → slice_get (claims p) place ≡ Some u
+    → StandsAt (claims p) place u
 claim_once p place u e = record {
   there = e;
   once = λ k h. once_in_order ClaimBefore ClaimBefore-strict (claims p) k place u (claims-ordered p) h e;
 }
 
-pub claim_at : (p : Plan) (place goal : ℕ) (xs : List ℕ) → slice_get (claims p) place ≡ Some (goal, xs) → IsInPlan p goal xs
+pub claim_at : (p : Plan) (place goal : ℕ) (xs : List ℕ) → slice_get (claims p) place ≡ Some (goal, xs)
+    → IsInPlan p goal xs
 claim_at p place goal xs e = (In_of_claims p goal xs (In-slice_get (claims p) place (goal, xs) e)).0

@@ -9,7 +9,8 @@ choose_none : (n k : ℕ) → n < k → choose n k ≡ 0
 unfolding choose
 choose_none n zero l = absurd (omega arith)
 choose_none zero (suc k) l = refl
-choose_none (suc n) (suc k) l = let a = choose_none n k (omega arith) in let b = choose_none n (suc k) (omega arith) in omega (arith, a, b)
+choose_none (suc n) (suc k) l = let a = choose_none n k (omega arith) in let b = choose_none n (suc k) (omega arith) in
+    omega (arith, a, b)
 
 pub multichoose_of_choose : (n s : ℕ) → multichoose n s ≡ choose (n + s - 1) s
 unfolding multichoose
@@ -41,15 +42,20 @@ kind_step n t a b c x e p q = rw e (omega (arith, p, q))
 size_step : (n s a b c x : ℕ) → x ≡ a + b → n * a ≡ (n + s) * c → suc s * b ≡ (n + s) * c → suc s * x ≡ (suc n + s) * a
 size_step n s a b c x e p q = rw e (omega (arith, p, q))
 
-kinds_from : (n : ℕ) → ((s : ℕ) → suc s * multichoose n (suc s) ≡ (n + s) * multichoose n s) → (s : ℕ) → n * multichoose (suc n) s ≡ (n + s) * multichoose n s
+kinds_from : (n : ℕ) → ((s : ℕ) → suc s * multichoose n (suc s) ≡ (n + s) * multichoose n s) → (s : ℕ)
+    → n * multichoose (suc n) s ≡ (n + s) * multichoose n s
 kinds_from n h zero = let a = multichoose-zero (suc n) in let b = multichoose-zero n in rw (a, b) (omega arith)
-kinds_from n h (suc t) = kind_step n t (multichoose (suc n) t) (multichoose n (suc t)) (multichoose n t) (multichoose (suc n) (suc t)) (multichoose-more n t) (kinds_from n h t) (h t)
+kinds_from n h (suc t) =
+    kind_step n t (multichoose (suc n) t) (multichoose n (suc t)) (multichoose n t) (multichoose (suc n) (suc t))
+    (multichoose-more n t) (kinds_from n h t) (h t)
 
 -- from one size to the next
 pub next_size : (n s : ℕ) → suc s * multichoose n (suc s) ≡ (n + s) * multichoose n s
 next_size zero zero = let a = multichoose-none 0 in rw a (omega arith)
 next_size zero (suc s) = let a = multichoose-none (suc s) in let b = multichoose-none s in rw (a, b) (omega arith)
-next_size (suc n) s = size_step n s (multichoose (suc n) s) (multichoose n (suc s)) (multichoose n s) (multichoose (suc n) (suc s)) (multichoose-more n s) (kinds_from n (next_size n) s) (next_size n s)
+next_size (suc n) s =
+    size_step n s (multichoose (suc n) s) (multichoose n (suc s)) (multichoose n s) (multichoose (suc n) (suc s))
+    (multichoose-more n s) (kinds_from n (next_size n) s) (next_size n s)
 
 -- from one number of kinds to the next
 pub next_kind : (n s : ℕ) → n * multichoose (suc n) s ≡ (n + s) * multichoose n s
@@ -68,7 +74,8 @@ multichoose_below n (suc s) l =
 
 -- the numbers of this crate are small
 pub multichoose_small : (n s : ℕ) → n ≤ 65 → s ≤ 6 → multichoose n s ≤ 70 ^ 6
-multichoose_small n s k l = let a = multichoose_below n s (omega arith) in let b : 70 ^ s ≤ 70 ^ 6 = pow-le-pow_right {n = 70} (omega arith) l in omega (arith, a, b)
+multichoose_small n s k l = let a = multichoose_below n s (omega arith) in let b : 70 ^ s ≤ 70 ^ 6 =
+    pow-le-pow_right {n = 70} (omega arith) l in omega (arith, a, b)
 
 exact : (d p x : ℕ) → 0 < d → d * x ≡ p → p / d ≡ x
 exact d p x l e = ap (λ q. q / d) (sym e) ∙ mul-div_cancel_left x l

@@ -1,5 +1,6 @@
 -- Lists that never fall, and numbers in six places.
-use Rattle.std.proofs.Common.{◌≡◌, ℕ, zero, suc, ◌-◌, ◌<◌, ◌≤◌, true, false, List, [], ◌∷◌, ◌++◌, length, take, drop, get_or, set, replicate, refl, sym, ap, ◌∙◌, arith, length-append}
+use Rattle.std.proofs.Common.{◌≡◌, ℕ, zero, suc, ◌-◌, ◌<◌, ◌≤◌, true, false, List, [], ◌∷◌, ◌++◌, length, take, drop}
+use Rattle.std.proofs.Common.{get_or, set, replicate, refl, sym, ap, ◌∙◌, arith, length-append}
 use Rattle.std.specs.Prelude.{nat_le}
 use Rattle.std.proofs.lemmas.Bool.Decides.{nat_tests}
 use Rattle.std.proofs.lemmas.List.{take_at}
@@ -12,13 +13,15 @@ le_true x y l = grind (arith, nat_tests)
 pub le_false : (x y : ℕ) → y < x → nat_le x y ≡ false
 le_false x y l = grind (arith, nat_tests)
 
-pub falls_at : (xs : List ℕ) (i d : ℕ) → suc i < length xs → get_or xs (suc i) d < get_or xs i d → never_falls (drop i xs) ≡ false
+pub falls_at : (xs : List ℕ) (i d : ℕ) → suc i < length xs → get_or xs (suc i) d < get_or xs i d
+    → never_falls (drop i xs) ≡ false
 falls_at [] i d l h = absurd (omega (arith, l))
 falls_at (x ∷ []) i d l h = absurd (omega (arith, l))
 falls_at (x ∷ (y ∷ ys)) zero d l h = rw (le_false x y h) refl
 falls_at (x ∷ (y ∷ ys)) (suc i) d l h = falls_at (y ∷ ys) i d (omega (arith, l)) h
 
-pub goes_on : (xs : List ℕ) (i d : ℕ) → suc i < length xs → get_or xs i d ≤ get_or xs (suc i) d → never_falls (drop i xs) ≡ never_falls (drop (suc i) xs)
+pub goes_on : (xs : List ℕ) (i d : ℕ) → suc i < length xs → get_or xs i d ≤ get_or xs (suc i) d
+    → never_falls (drop i xs) ≡ never_falls (drop (suc i) xs)
 goes_on [] i d l h = absurd (omega (arith, l))
 goes_on (x ∷ []) i d l h = absurd (omega (arith, l))
 goes_on (x ∷ (y ∷ ys)) zero d l h = rw (le_true x y h) refl
@@ -42,7 +45,8 @@ pub padded-push : (xs : List ℕ) (i x : ℕ) → i ≡ length xs → i < 6 → 
 padded-push xs i x e l =
     let a : 6 - length xs ≡ suc (5 - length xs) = omega arith in
     let b : 6 - length (xs ++ x ∷ []) ≡ 5 - length xs = omega (arith, length-append xs (x ∷ [])) in
-    (λ j. set (xs ++ replicate (a j) 0) (e j) x) ∙ set_next xs (5 - length xs) x ∙ sym (λ j. (xs ++ x ∷ []) ++ replicate (b j) 0)
+    (λ j. set (xs ++ replicate (a j) 0) (e j) x) ∙ set_next xs (5 - length xs) x
+        ∙ sym (λ j. (xs ++ x ∷ []) ++ replicate (b j) 0)
 
 pub take-padded : (xs : List ℕ) (i : ℕ) → i ≡ length xs → take i (padded xs) ≡ xs
 take-padded xs i e = take_at xs (replicate (6 - length xs) 0) i (sym e)

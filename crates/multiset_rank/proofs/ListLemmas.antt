@@ -1,5 +1,7 @@
 -- Membership by recursion, lists whose elements stand in an order, and elements by their place.
-use Rattle.std.proofs.Common.{◌≡◌, ℕ, zero, suc, ◌+◌, ◌<◌, ◌≤◌, Bool, true, false, cond, List, [], ◌∷◌, ◌++◌, length, map, filter, get_or, Option, Some, None, ◌⊎◌, inl, inr, refl, sym, ap, subst, ◌∙◌, arith, Contains, slice_get, option_map, zero-add}
+use Rattle.std.proofs.Common.{◌≡◌, ℕ, zero, suc, ◌+◌, ◌<◌, ◌≤◌, Bool, true, false, cond, List, [], ◌∷◌, ◌++◌, length}
+use Rattle.std.proofs.Common.{map, filter, get_or, Option, Some, None, ◌⊎◌, inl, inr, refl, sym, ap, subst, ◌∙◌, arith}
+use Rattle.std.proofs.Common.{Contains, slice_get, option_map, zero-add}
 use Rattle.std.specs.Prelude.{AllPairs}
 use Rattle.std.proofs.lemmas.Bool.{cases_lt}
 use Rattle.std.specs.List.{flat_map, range_with_len}
@@ -52,7 +54,8 @@ In_of_map f (z ∷ xs) y (inl e) = (z, inl refl, e)
 In_of_map f (z ∷ xs) y (inr h) = let r = In_of_map f xs y h in (r.0, inr r.1, r.2)
 
 -- what a filter keeps
-In-cond : {X : Type 0} (b : Bool) (z : X) (xs : List X) (x : X) → In (cond b (z ∷ xs) xs) x → ((z ≡ x) × (b ≡ true)) ⊎ In xs x
+In-cond : {X : Type 0} (b : Bool) (z : X) (xs : List X) (x : X) → In (cond b (z ∷ xs) xs) x
+    → ((z ≡ x) × (b ≡ true)) ⊎ In xs x
 In-cond true z xs x (inl e) = inl (e, refl)
 In-cond true z xs x (inr h) = inr h
 In-cond false z xs x h = inr h
@@ -74,7 +77,8 @@ In-filter {X} p (z ∷ xs) x (inr h) t = keep (p z) (In-filter p xs x h t)
     keep true i = inr i
     keep false i = i
 
-pub In_of_flat_map : {X Y : Type 0} (f : X → List Y) (xs : List X) (y : Y) → In (flat_map f xs) y → (x : X) × In xs x × In (f x) y
+pub In_of_flat_map : {X Y : Type 0} (f : X → List Y) (xs : List X) (y : Y) → In (flat_map f xs) y
+    → (x : X) × In xs x × In (f x) y
 In_of_flat_map f [] y h = absurd h
 In_of_flat_map f (z ∷ xs) y h =
     elim (In-append_cases (f z) (flat_map f xs) y h) [
@@ -82,9 +86,11 @@ In_of_flat_map f (z ∷ xs) y h =
       | inr b ↦ (let r = In_of_flat_map f xs y b in (r.0, inr r.1, r.2))
     ]
 
-pub In-flat_map : {X Y : Type 0} (f : X → List Y) (xs : List X) (x : X) (y : Y) → In xs x → In (f x) y → In (flat_map f xs) y
+pub In-flat_map : {X Y : Type 0} (f : X → List Y) (xs : List X) (x : X) (y : Y) → In xs x → In (f x) y
+    → In (flat_map f xs) y
 In-flat_map f [] x y h i = absurd h
-In-flat_map {X} {Y} f (z ∷ xs) x y (inl e) i = In-append_left (f z) (flat_map f xs) y (subst (λ w. In (f w) y) (sym e) i)
+In-flat_map {X} {Y} f (z ∷ xs) x y (inl e) i =
+    In-append_left (f z) (flat_map f xs) y (subst (λ w. In (f w) y) (sym e) i)
 In-flat_map f (z ∷ xs) x y (inr h) i = In-append_right (f z) (flat_map f xs) y (In-flat_map f xs x y h i)
 
 pub In_of_range : (a n x : ℕ) → In (range_with_len a n) x → (a ≤ x) × (x < a + n)
@@ -94,14 +100,17 @@ In_of_range a (suc n) x (inr h) = let r = In_of_range (a + 1) n x h in (omega (a
 
 pub In-range : (a n x : ℕ) → a ≤ x → x < a + n → In (range_with_len a n) x
 In-range a zero x l h = absurd (omega (arith, l, h))
-In-range a (suc n) x l h = elim (cases_lt a x) [ inl less ↦ inr (In-range (a + 1) n x (omega (arith, less)) (omega (arith, h))) | inr more ↦ inl (omega (arith, l, more)) ]
+In-range a (suc n) x l h =
+    elim (cases_lt a x) [ inl less ↦ inr
+    (In-range (a + 1) n x (omega (arith, less)) (omega (arith, h))) | inr more ↦ inl (omega (arith, l, more)) ]
 
 -- each element stands in R to all that follow it
 abbrev pub IsOrdered : {X : Type 0} → (X → X → Type 0) → List X → Type 0
 IsOrdered R [] = Unit {0}
 IsOrdered {X} R (x ∷ xs) = ((y : X) → In xs y → R x y) × IsOrdered R xs
 
-pub IsOrdered-filter : {X : Type 0} (R : X → X → Type 0) (p : X → Bool) (xs : List X) → IsOrdered R xs → IsOrdered R (filter p xs)
+pub IsOrdered-filter : {X : Type 0} (R : X → X → Type 0) (p : X → Bool) (xs : List X) → IsOrdered R xs
+    → IsOrdered R (filter p xs)
 IsOrdered-filter R p [] h = tt
 IsOrdered-filter {X} R p (x ∷ xs) h = keep (p x) (IsOrdered-filter R p xs h.1)
   where
@@ -109,12 +118,14 @@ IsOrdered-filter {X} R p (x ∷ xs) h = keep (p x) (IsOrdered-filter R p xs h.1)
     keep true o = (λ y i. h.0 y (In_of_filter p xs y i).0, o)
     keep false o = o
 
-pub IsOrdered-map : {X Y : Type 0} (R : X → X → Type 0) (S : Y → Y → Type 0) (f : X → Y) → ((a b : X) → R a b → S (f a) (f b)) → (xs : List X) → IsOrdered R xs → IsOrdered S (map f xs)
+pub IsOrdered-map : {X Y : Type 0} (R : X → X → Type 0) (S : Y → Y → Type 0) (f : X → Y)
+    → ((a b : X) → R a b → S (f a) (f b)) → (xs : List X) → IsOrdered R xs → IsOrdered S (map f xs)
 IsOrdered-map R S f k [] h = tt
 IsOrdered-map {X} {Y} R S f k (x ∷ xs) h =
     (λ y i. let r = In_of_map f xs y i in subst (S (f x)) r.2 (k x r.0 (h.0 r.0 r.1)), IsOrdered-map R S f k xs h.1)
 
-pub IsOrdered-append : {X : Type 0} (R : X → X → Type 0) (xs ys : List X) → IsOrdered R xs → IsOrdered R ys → ((x y : X) → In xs x → In ys y → R x y) → IsOrdered R (xs ++ ys)
+pub IsOrdered-append : {X : Type 0} (R : X → X → Type 0) (xs ys : List X) → IsOrdered R xs → IsOrdered R ys
+    → ((x y : X) → In xs x → In ys y → R x y) → IsOrdered R (xs ++ ys)
 IsOrdered-append R [] ys h k c = k
 IsOrdered-append {X} R (x ∷ xs) ys h k c = (
   λ y i. elim (In-append_cases xs ys y i) [ inl a ↦ h.0 y a | inr b ↦ c x y (inl refl) b ],
@@ -122,7 +133,9 @@ IsOrdered-append {X} R (x ∷ xs) ys h k c = (
 )
 
 -- the lists that an order of their first parts keeps apart
-pub IsOrdered-flat_map : {X Y : Type 0} (R : X → X → Type 0) (S : Y → Y → Type 0) (f : X → List Y) → ((x : X) → IsOrdered S (f x)) → ((a b : X) (u v : Y) → R a b → In (f a) u → In (f b) v → S u v) → (xs : List X) → IsOrdered R xs → IsOrdered S (flat_map f xs)
+pub IsOrdered-flat_map : {X Y : Type 0} (R : X → X → Type 0) (S : Y → Y → Type 0) (f : X → List Y)
+    → ((x : X) → IsOrdered S (f x)) → ((a b : X) (u v : Y) → R a b → In (f a) u → In (f b) v → S u v) → (xs : List X)
+    → IsOrdered R xs → IsOrdered S (flat_map f xs)
 IsOrdered-flat_map R S f each apart [] h = tt
 IsOrdered-flat_map {X} {Y} R S f each apart (x ∷ xs) h =
     IsOrdered-append S (f x) (flat_map f xs) (each x) (IsOrdered-flat_map R S f each apart xs h.1)
@@ -142,26 +155,33 @@ AllPairs-from_ordered R [] h i j d l k = absurd (omega arith)
 AllPairs-from_ordered R (x ∷ xs) h zero zero d l k = absurd (omega arith)
 AllPairs-from_ordered R (x ∷ xs) h zero (suc j) d l k = h.0 (get_or xs j d) (In-get_or xs j d (omega arith))
 AllPairs-from_ordered R (x ∷ xs) h (suc i) zero d l k = absurd (omega arith)
-AllPairs-from_ordered R (x ∷ xs) h (suc i) (suc j) d l k = AllPairs-from_ordered R xs h.1 i j d (omega arith) (omega arith)
+AllPairs-from_ordered R (x ∷ xs) h (suc i) (suc j) d l k =
+    AllPairs-from_ordered R xs h.1 i j d (omega arith) (omega arith)
 
 -- where nothing stands in R to itself, nothing stands twice
-pub once_in_order : {X : Type 0} (R : X → X → Type 0) → ((x : X) → R x x → ⊥) → (xs : List X) (i j : ℕ) (x : X) → IsOrdered R xs → slice_get xs i ≡ Some x → slice_get xs j ≡ Some x → i ≡ j
+pub once_in_order : {X : Type 0} (R : X → X → Type 0) → ((x : X) → R x x → ⊥) → (xs : List X) (i j : ℕ) (x : X)
+    → IsOrdered R xs → slice_get xs i ≡ Some x → slice_get xs j ≡ Some x → i ≡ j
 once_in_order R strict [] i j x h e g = absurd (cc)
 once_in_order R strict (y ∷ ys) zero zero x h e g = refl
-once_in_order {X} R strict (y ∷ ys) zero (suc j) x h e g = let s : y ≡ x = cc in absurd (strict x (subst (λ z. R z x) s (h.0 x (In-slice_get ys j x g))))
-once_in_order {X} R strict (y ∷ ys) (suc i) zero x h e g = let s : y ≡ x = cc in absurd (strict x (subst (λ z. R z x) s (h.0 x (In-slice_get ys i x e))))
+once_in_order {X} R strict (y ∷ ys) zero (suc j) x h e g = let s : y ≡ x = cc in
+    absurd (strict x (subst (λ z. R z x) s (h.0 x (In-slice_get ys j x g))))
+once_in_order {X} R strict (y ∷ ys) (suc i) zero x h e g = let s : y ≡ x = cc in
+    absurd (strict x (subst (λ z. R z x) s (h.0 x (In-slice_get ys i x e))))
 once_in_order R strict (y ∷ ys) (suc i) (suc j) x h e g = ap suc (once_in_order R strict ys i j x h.1 e g)
 
-pub slice_get-append_left : {X : Type 0} (xs ys : List X) (i : ℕ) → i < length xs → slice_get (xs ++ ys) i ≡ slice_get xs i
+pub slice_get-append_left : {X : Type 0} (xs ys : List X) (i : ℕ) → i < length xs
+    → slice_get (xs ++ ys) i ≡ slice_get xs i
 slice_get-append_left [] ys i l = absurd (omega arith)
 slice_get-append_left (x ∷ xs) ys zero l = refl
 slice_get-append_left (x ∷ xs) ys (suc i) l = slice_get-append_left xs ys i (omega arith)
 
-pub slice_get-append_right : {X : Type 0} (xs ys : List X) (i j : ℕ) → j ≡ length xs + i → slice_get (xs ++ ys) j ≡ slice_get ys i
+pub slice_get-append_right : {X : Type 0} (xs ys : List X) (i j : ℕ) → j ≡ length xs + i
+    → slice_get (xs ++ ys) j ≡ slice_get ys i
 slice_get-append_right [] ys i j e = ap (slice_get ys) (e ∙ zero-add i)
 slice_get-append_right (x ∷ xs) ys i zero e = absurd (omega (arith, e))
 slice_get-append_right (x ∷ xs) ys i (suc j) e = slice_get-append_right xs ys i j (omega (arith, e))
 
-pub option_map-map : {X Y Z : Type 0} (f : Y → Z) (g : X → Y) (h : X → Z) → ((x : X) → f (g x) ≡ h x) → (o : Option X) → option_map f (option_map g o) ≡ option_map h o
+pub option_map-map : {X Y Z : Type 0} (f : Y → Z) (g : X → Y) (h : X → Z) → ((x : X) → f (g x) ≡ h x) → (o : Option X)
+    → option_map f (option_map g o) ≡ option_map h o
 option_map-map f g h e None = refl
 option_map-map f g h e (Some x) = ap Some (e x)

@@ -43,7 +43,8 @@ pub record IsInPlan (p : Plan) (goal : ℕ) (xs : List ℕ) : Type 0 where
 
 -- by size, then by goal, then by multiset
 abbrev pub claim_cmp : ℕ × List ℕ → ℕ × List ℕ → Ordering
-claim_cmp a b = ordering_then (nat_cmp (length a.1) (length b.1)) (ordering_then (nat_cmp a.0 b.0) (slice_cmp nat_cmp a.1 b.1))
+claim_cmp a b = ordering_then (nat_cmp (length a.1) (length b.1))
+    (ordering_then (nat_cmp a.0 b.0) (slice_cmp nat_cmp a.1 b.1))
 
 -- the list rises strictly, and has exactly the goals with the never-falling lists that are in the plan
 pub record AreClaims (p : Plan) (list : List (ℕ × List ℕ)) : Type 0 where

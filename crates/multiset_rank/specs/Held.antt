@@ -13,5 +13,6 @@ pub record IsHeld (len : ℕ) (places : List ℕ) : Type 0 where
   pub order : IsTrue (never_falls (take len places))
 
 -- the fields are those that their list gives
-pub padded_again : (m : Inside) → IsHeld m.len m.places → (record { places = padded (take m.len m.places); len = length (take m.len m.places) }) ≡ m
+pub padded_again : (m : Inside) → IsHeld m.len m.places
+    → (record { places = padded (take m.len m.places); len = length (take m.len m.places) }) ≡ m
 padded_again m h = λ i. record { places = sym h.rest i; len = h.full i }

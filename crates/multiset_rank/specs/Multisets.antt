@@ -1,6 +1,8 @@
--- Multisets of numbers, each as the list of its numbers that never falls, in lexicographic order: combinations with repetition.
+-- Multisets of numbers, each as the list of its numbers that never falls, in lexicographic order: combinations with
+-- repetition.
 -- Knuth, The Art of Computer Programming, volume 4A, 7.2.1.3.
-use Rattle.std.specs.Prelude.{◌≡◌, ℕ, zero, suc, ◌<◌, ◌≤◌, Bool, true, ◌&&◌, List, [], ◌∷◌, length, map, filter, nat_le, All, AllPairs, Contains, IsTrue, ◌↔◌, Some, slice_get}
+use Rattle.std.specs.Prelude.{◌≡◌, ℕ, zero, suc, ◌<◌, ◌≤◌, Bool, true, ◌&&◌, List, [], ◌∷◌, length, map, filter, nat_le}
+use Rattle.std.specs.Prelude.{All, AllPairs, Contains, IsTrue, ◌↔◌, Some, slice_get}
 use Rattle.std.specs.List.{flat_map, range_with_len}
 use Rattle.std.specs.Ordering.{nat_cmp}
 use Rattle.std.specs.Cmp.Lexicographic.{slice_cmp}

@@ -32,7 +32,8 @@ fn first_number(from: u32, kinds: u32, size: u8, number: u64) -> (u32, u64)
     requires number { number < multichoose (kinds - from) (size + 1) }
     ensures below { result.0 < kinds }
     ensures rest { result.1 < multichoose (kinds - result.0) size }
-    ensures place { slice_get (rising from (kinds - from) (size + 1)) number ≡ option_map (λ xs. result.0 ∷ xs) (slice_get (rising result.0 (kinds - result.0) size) result.1) }
+    ensures place { slice_get (rising from (kinds - from) (size + 1)) number
+        ≡ option_map (λ xs. result.0 ∷ xs) (slice_get (rising result.0 (kinds - result.0) size) result.1) }
 {
     let mut first = from;
     let mut rest = number;

@@ -7,7 +7,8 @@ loop-chosen-init c = sym (multichoose-zero c.args.kinds)
 
 pub overflow_mul-ways : goal.overflow_mul-ways
 overflow_mul-ways c =
-    let small = small_ways c.args.kinds c.loop-chosen.chosen c.loop-chosen.ways c.loop-chosen.invariant c.requires.kinds (omega arith) in
+    let small = small_ways c.args.kinds c.loop-chosen.chosen c.loop-chosen.ways c.loop-chosen.invariant c.requires.kinds
+        (omega arith) in
     let fits = product_fits c.loop-chosen.ways (c.from.result + c.from-in-loop-chosen.result) small (omega arith) in
     omega (arith, fits)
 
@@ -17,4 +18,6 @@ loop-chosen-preserved c =
     (next_size_exact c.args.kinds c.loop-chosen.chosen c.loop-chosen.ways c.loop-chosen.invariant)
 
 pub returns-clause-small : goal.returns-clause-small
-returns-clause-small c = small_ways c.args.kinds c.loop-chosen.chosen c.loop-chosen.ways c.loop-chosen.invariant c.requires.kinds (omega arith)
+returns-clause-small c =
+    small_ways c.args.kinds c.loop-chosen.chosen c.loop-chosen.ways c.loop-chosen.invariant c.requires.kinds
+    (omega arith)

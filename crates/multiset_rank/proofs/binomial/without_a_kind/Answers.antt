@@ -9,4 +9,5 @@ overflow_mul-result c =
     omega (arith, fits)
 
 pub returns : goal.returns
-returns c = rw (c.from.ensures, c.from-2.ensures, c.from-3.ensures) (next_kind_exact c.args.kinds c.args.size c.args.ways c.requires.some c.requires.ways)
+returns c = rw (c.from.ensures, c.from-2.ensures, c.from-3.ensures)
+    (next_kind_exact c.args.kinds c.args.size c.args.ways c.requires.some c.requires.ways)

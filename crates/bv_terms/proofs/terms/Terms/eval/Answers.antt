@@ -19,15 +19,23 @@ loop-place-preserved c =
     let inputs_are = c.as_slice-inputs.ensures in
     let within : place < length c.loop-place.room = omega arith in
     let e = entry-at table place (omega arith) in
-    IsFilled-more table c.args.env.now.values c.loop-place.room place c.step-value.result within c.loop-place.invariant (λ fit.
-    let valued = args-valued table c.step-value.ensures.table c.args.env.now.values c.loop-place.room at e.0 e.1 c.loop-place.invariant fit in
-    c.step-value.ensures.value e.0 e.1 (subst (λ inputs. All (IsValued table inputs c.loop-place.room) e.0.args) (sym inputs_are) valued)
-    (subst (λ inputs. InputsFit inputs (term_at table at)) (sym inputs_are) fit) ∙ ap (λ inputs. value inputs (term_at table at)) inputs_are)
+    IsFilled-more table c.args.env.now.values c.loop-place.room place c.step-value.result within c.loop-place.invariant
+    (λ fit.
+    let valued = args-valued table c.step-value.ensures.table c.args.env.now.values c.loop-place.room at e.0 e.1
+    c.loop-place.invariant fit in
+    c.step-value.ensures.value e.0 e.1
+    (subst (λ inputs. All (IsValued table inputs c.loop-place.room) e.0.args) (sym inputs_are) valued)
+    (subst (λ inputs. InputsFit inputs (term_at table at)) (sym inputs_are) fit)
+    ∙ ap (λ inputs. value inputs (term_at table at)) inputs_are)
 
 pub returns-clause-value : goal.returns-clause-value
-returns-clause-value c = get_or_from_slice_get c.loop-place.room c.args.at.0 _ _ (c.loop-place.invariant c.args.at.0 (omega arith) c.requires.inputs)
+returns-clause-value c =
+    get_or_from_slice_get c.loop-place.room c.args.at.0 _ _
+    (c.loop-place.invariant c.args.at.0 (omega arith) c.requires.inputs)
 
 pub returns-clause-sorted : goal.returns-clause-sorted
 returns-clause-sorted c = λ s sorted.
-    subst (HasSort s) (sym (get_or_from_slice_get c.loop-place.room c.args.at.0 _ _ (c.loop-place.invariant c.args.at.0 (omega arith) c.requires.inputs)))
+    subst (HasSort s) (sym
+    (get_or_from_slice_get c.loop-place.room c.args.at.0 _ _
+    (c.loop-place.invariant c.args.at.0 (omega arith) c.requires.inputs)))
     (value-sorted c.args.env.now.values _ s sorted c.requires.inputs)

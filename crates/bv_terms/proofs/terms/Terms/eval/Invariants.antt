@@ -7,4 +7,5 @@ use Rattle.bv_terms.proofs.terms.Terms.eval.Given as goal
 -- each place so far has the value of its node's term, where the inputs of that term fit
 abbrev pub invariant-loop-place : goal.invariant-loop-place
 invariant-loop-place l =
-    (k : ℕ) → k < l.place → InputsFit l.env.values (term_in (terms_of l.self) k) → slice_get l.room k ≡ Some (value l.env.values (term_in (terms_of l.self) k))
+    (k : ℕ) → k < l.place → InputsFit l.env.values (term_in (terms_of l.self) k)
+    → slice_get l.room k ≡ Some (value l.env.values (term_in (terms_of l.self) k))

@@ -24,10 +24,13 @@ loop-at-preserved c =
     let before = c.requires.order.arguments i at e.0 (slice_get-get_or nodes i none c.loop-at-test.true) e.1 in
     let valued : All (IsValued table inputs c.loop-at.room) e.0.args =
     All-weaker (Contains (take i nodes)) (IsValued table inputs c.loop-at.room)
-    (λ a c'. All-contains (IsValued table inputs c.loop-at.room) (take i nodes) a c.loop-at.invariant.valued c') e.0.args before in
+    (λ a c'. All-contains (IsValued table inputs c.loop-at.room) (take i nodes) a c.loop-at.invariant.valued c')
+    e.0.args before in
     let is = c.step-value.ensures.value e.0 e.1
     (subst (λ inputs. All (IsValued table inputs c.loop-at.room) e.0.args) (sym c.as_slice-inputs.ensures) valued)
-    (subst (λ inputs. InputsFit inputs (term_at table at)) (sym c.as_slice-inputs.ensures) (c.requires.inputs i none c.loop-at-test.true))
+    (subst (λ inputs. InputsFit inputs (term_at table at)) (sym c.as_slice-inputs.ensures)
+    (c.requires.inputs i none c.loop-at-test.true))
     ∙ ap (λ inputs. value inputs (term_at table at)) c.as_slice-inputs.ensures in
     subst (IsAlong table inputs c.args.room.now _) (sym (take_more nodes i none c.loop-at-test.true))
-    (IsAlong-more table inputs c.args.room.now c.loop-at.room (take i nodes) at c.step-value.result (omega arith) c.loop-at.invariant is)
+    (IsAlong-more table inputs c.args.room.now c.loop-at.room (take i nodes) at c.step-value.result
+    (omega arith) c.loop-at.invariant is)

@@ -4,7 +4,8 @@ use Rattle.bv_terms.specs.declared.op.TermId.{TermId}
 use Rattle.bv_terms.specs.Term.{End}
 use Rattle.bv_terms.specs.Sorts.{sorts_of}
 use Rattle.bv_terms.specs.Table.{operands, terms_of}
-use Rattle.bv_terms.proofs.MakeLemmas.{empty_list, one_element, two_elements, sorts_of-end, sorts_of-then, fault-from_sorts, sort-from_sorts, refused_past_arity}
+use Rattle.bv_terms.proofs.MakeLemmas.{empty_list, one_element, two_elements, sorts_of-end, sorts_of-then}
+use Rattle.bv_terms.proofs.MakeLemmas.{fault-from_sorts, sort-from_sorts, refused_past_arity}
 use Rattle.bv_terms.proofs.terms.Terms.sort_over.Goals as goal
 
 abbrev zeroth : TermId
@@ -12,38 +13,53 @@ zeroth = record { 0 = 0 }
 
 pub returns-in-empty-clause-fault : goal.returns-in-empty-clause-fault
 returns-in-empty-clause-fault c =
-    let sorts = ap (λ args. sorts_of (operands (terms_of c.args.self.now) args)) (empty_list c.args.args.now c.in-empty.len_below) ∙ sorts_of-end in
+    let sorts = ap (λ args. sorts_of (operands (terms_of c.args.self.now) args))
+    (empty_list c.args.args.now c.in-empty.len_below) ∙ sorts_of-end in
     fault-from_sorts c.args.self.now c.args.op c.args.args.now [] c.sort_over.result sorts c.sort_over.ensures
 
 pub returns-in-empty-clause-sort : goal.returns-in-empty-clause-sort
 returns-in-empty-clause-sort c =
-    let sorts = ap (λ args. sorts_of (operands (terms_of c.args.self.now) args)) (empty_list c.args.args.now c.in-empty.len_below) ∙ sorts_of-end in
+    let sorts = ap (λ args. sorts_of (operands (terms_of c.args.self.now) args))
+    (empty_list c.args.args.now c.in-empty.len_below) ∙ sorts_of-end in
     sort-from_sorts c.args.self.now c.args.op c.args.args.now [] c.sort_over.result sorts c.sort_over.ensures
 
 pub returns-in-len1-clause-fault : goal.returns-in-len1-clause-fault
 returns-in-len1-clause-fault c =
-    let sorts = ap (λ args. sorts_of (operands (terms_of c.args.self.now) args)) (one_element c.args.args.now zeroth c.in-len1.len_at_least c.in-len1.len_below)
+    let sorts = ap (λ args. sorts_of (operands (terms_of c.args.self.now) args))
+    (one_element c.args.args.now zeroth c.in-len1.len_at_least c.in-len1.len_below)
     ∙ sorts_of-then _ End c.sort.result [] c.sort.ensures sorts_of-end in
-    fault-from_sorts c.args.self.now c.args.op c.args.args.now (c.sort.result ∷ []) c.sort_over-in-len1.result sorts c.sort_over-in-len1.ensures
+    fault-from_sorts c.args.self.now c.args.op c.args.args.now
+    (c.sort.result ∷ []) c.sort_over-in-len1.result sorts c.sort_over-in-len1.ensures
 
 pub returns-in-len1-clause-sort : goal.returns-in-len1-clause-sort
 returns-in-len1-clause-sort c =
-    let sorts = ap (λ args. sorts_of (operands (terms_of c.args.self.now) args)) (one_element c.args.args.now zeroth c.in-len1.len_at_least c.in-len1.len_below)
+    let sorts = ap (λ args. sorts_of (operands (terms_of c.args.self.now) args))
+    (one_element c.args.args.now zeroth c.in-len1.len_at_least c.in-len1.len_below)
     ∙ sorts_of-then _ End c.sort.result [] c.sort.ensures sorts_of-end in
-    sort-from_sorts c.args.self.now c.args.op c.args.args.now (c.sort.result ∷ []) c.sort_over-in-len1.result sorts c.sort_over-in-len1.ensures
+    sort-from_sorts c.args.self.now c.args.op c.args.args.now
+    (c.sort.result ∷ []) c.sort_over-in-len1.result sorts c.sort_over-in-len1.ensures
 
 pub returns-in-len2-clause-fault : goal.returns-in-len2-clause-fault
 returns-in-len2-clause-fault c =
-    let sorts = ap (λ args. sorts_of (operands (terms_of c.args.self.now) args)) (two_elements c.args.args.now zeroth c.in-len2.len_at_least c.in-len2.len_below)
-    ∙ sorts_of-then _ _ c.sort-in-len2.result (c.sort-in-len2-2.result ∷ []) c.sort-in-len2.ensures (sorts_of-then _ End c.sort-in-len2-2.result [] c.sort-in-len2-2.ensures sorts_of-end) in
-    fault-from_sorts c.args.self.now c.args.op c.args.args.now (c.sort-in-len2.result ∷ c.sort-in-len2-2.result ∷ []) c.sort_over-in-len2.result sorts c.sort_over-in-len2.ensures
+    let sorts = ap (λ args. sorts_of (operands (terms_of c.args.self.now) args))
+    (two_elements c.args.args.now zeroth c.in-len2.len_at_least c.in-len2.len_below)
+    ∙ sorts_of-then _ _ c.sort-in-len2.result (c.sort-in-len2-2.result ∷ []) c.sort-in-len2.ensures
+    (sorts_of-then _ End c.sort-in-len2-2.result [] c.sort-in-len2-2.ensures sorts_of-end) in
+    fault-from_sorts c.args.self.now c.args.op c.args.args.now
+    (c.sort-in-len2.result ∷ c.sort-in-len2-2.result ∷ []) c.sort_over-in-len2.result sorts
+    c.sort_over-in-len2.ensures
 
 pub returns-in-len2-clause-sort : goal.returns-in-len2-clause-sort
 returns-in-len2-clause-sort c =
-    let sorts = ap (λ args. sorts_of (operands (terms_of c.args.self.now) args)) (two_elements c.args.args.now zeroth c.in-len2.len_at_least c.in-len2.len_below)
-    ∙ sorts_of-then _ _ c.sort-in-len2.result (c.sort-in-len2-2.result ∷ []) c.sort-in-len2.ensures (sorts_of-then _ End c.sort-in-len2-2.result [] c.sort-in-len2-2.ensures sorts_of-end) in
-    sort-from_sorts c.args.self.now c.args.op c.args.args.now (c.sort-in-len2.result ∷ c.sort-in-len2-2.result ∷ []) c.sort_over-in-len2.result sorts c.sort_over-in-len2.ensures
+    let sorts = ap (λ args. sorts_of (operands (terms_of c.args.self.now) args))
+    (two_elements c.args.args.now zeroth c.in-len2.len_at_least c.in-len2.len_below)
+    ∙ sorts_of-then _ _ c.sort-in-len2.result (c.sort-in-len2-2.result ∷ []) c.sort-in-len2.ensures
+    (sorts_of-then _ End c.sort-in-len2-2.result [] c.sort-in-len2-2.ensures sorts_of-end) in
+    sort-from_sorts c.args.self.now c.args.op c.args.args.now
+    (c.sort-in-len2.result ∷ c.sort-in-len2-2.result ∷ []) c.sort_over-in-len2.result sorts
+    c.sort_over-in-len2.ensures
 
 pub returns-in_default-clause-fault : goal.returns-in_default-clause-fault
 returns-in_default-clause-fault c =
-    refused_past_arity c.args.self.now c.requires.table c.args.op c.args.args.now c.requires.args c.in_default.len_at_least
+    refused_past_arity c.args.self.now c.requires.table c.args.op c.args.args.now c.requires.args
+    c.in_default.len_at_least

@@ -10,20 +10,26 @@ use Rattle.bv_terms.proofs.terms.Terms.step.Goals as goal
 
 pub apply-requires-clause-arity : goal.apply-requires-clause-arity
 apply-requires-clause-arity c =
-    let stands = kept-stands c.self.inside.pointer c.self.inside.nodes.entries c.args.self.now c.self.view_is c.args.at.0 c.unwrap.result.0.now c.unwrap.result.1.now _
+    let stands = kept-stands c.self.inside.pointer c.self.inside.nodes.entries c.args.self.now c.self.view_is
+    c.args.at.0 c.unwrap.result.0.now c.unwrap.result.1.now _
     (sym c.get_index.ensures.entry ∙ ap (option_map deref_pair) c.unwrap.ensures) c.args-2.ensures in
     node-arity c.args.self.now (subst IsTable c.self.view_is c.self.invariant.table) c.args.at.0 _ stands
 
 pub apply-requires-clause-filled : goal.apply-requires-clause-filled
 apply-requires-clause-filled c =
-    let stands = kept-stands c.self.inside.pointer c.self.inside.nodes.entries c.args.self.now c.self.view_is c.args.at.0 c.unwrap.result.0.now c.unwrap.result.1.now _
+    let stands = kept-stands c.self.inside.pointer c.self.inside.nodes.entries c.args.self.now c.self.view_is
+    c.args.at.0 c.unwrap.result.0.now c.unwrap.result.1.now _
     (sym c.get_index.ensures.entry ∙ ap (option_map deref_pair) c.unwrap.ensures) c.args-2.ensures in
-    node-below c.args.self.now (subst IsTable c.self.view_is c.self.invariant.table) c.args.at.0 (length c.args.room.now) _ stands c.requires.room
+    node-below c.args.self.now (subst IsTable c.self.view_is c.self.invariant.table) c.args.at.0
+    (length c.args.room.now) _ stands c.requires.room
 
 pub returns-clause-value : goal.returns-clause-value
 returns-clause-value c = λ e h valued fit.
-    let stands = kept-stands c.self.inside.pointer c.self.inside.nodes.entries c.args.self.now c.self.view_is c.args.at.0 c.unwrap.result.0.now c.unwrap.result.1.now _
+    let stands = kept-stands c.self.inside.pointer c.self.inside.nodes.entries c.args.self.now c.self.view_is
+    c.args.at.0 c.unwrap.result.0.now c.unwrap.result.1.now _
     (sym c.get_index.ensures.entry ∙ ap (option_map deref_pair) c.unwrap.ensures) c.args-2.ensures in
     let same = same_Some _ _ (sym h ∙ stands) in
-    step-value c.args.self.now (subst IsTable c.self.view_is c.self.invariant.table) c.args.inputs.now c.args.room.now c.args.at _ stands
-    (subst (λ (e : Entry). All (IsValued c.args.self.now c.args.inputs.now c.args.room.now) e.args) same valued) c.apply.result c.apply.ensures fit
+    step-value c.args.self.now
+    (subst IsTable c.self.view_is c.self.invariant.table) c.args.inputs.now c.args.room.now c.args.at _ stands
+    (subst (λ (e : Entry). All (IsValued c.args.self.now c.args.inputs.now c.args.room.now) e.args) same valued)
+    c.apply.result c.apply.ensures fit

@@ -5,8 +5,12 @@ use Rattle.multiset_rank.proofs.ClaimLemmas.{claims_law}
 use Rattle.multiset_rank.proofs.NumberLemmas.{length-claims, claims-formula}
 use Rattle.multiset_rank.proofs.plan.ClaimPlan.claims.Goals as goal
 
-all : (c : goal.After-claims_below) → c.claims_below.result ≡ length (flat_map (claims_of_size c.args.self.now) (range_with_len 0 (c.args.self.now.bound + 1)))
-all c = c.claims_below.ensures.value ∙ ap (λ b. length (flat_map (claims_of_size c.args.self.now) (range_with_len 0 (b + 1)))) (ap (λ p. p.bound) c.self.view_is)
+all : (c : goal.After-claims_below)
+    → c.claims_below.result
+    ≡ length (flat_map (claims_of_size c.args.self.now) (range_with_len 0 (c.args.self.now.bound + 1)))
+all c = c.claims_below.ensures.value
+    ∙ ap (λ b. length (flat_map (claims_of_size c.args.self.now) (range_with_len 0 (b + 1))))
+    (ap (λ p. p.bound) c.self.view_is)
 
 pub returns-clause-length : goal.returns-clause-length
 returns-clause-length c = all c ∙ sym (length-claims c.args.self.now)
