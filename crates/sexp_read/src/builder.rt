@@ -1,4 +1,8 @@
-ghost use Rattle.std.specs.Prelude.{◌≡◌, ℕ, ◌+◌, ◌^◌, ◌<◌, ◌≤◌, ◌⊎◌, List, [], ◌∷◌, ◌++◌, length, OnOk, IfOk, IfErr, IsOkUnless};
+//! What has been built from the tokens so far: the items, and the lists that are open. After each
+//! token they stand for trees of the tokens before it, and at most 256 lists are open.
+
+ghost use Rattle.std.specs.Prelude.{◌≡◌, ℕ, ◌+◌, ◌^◌, ◌<◌, ◌≤◌, ◌⊎◌, List, [], ◌∷◌, ◌++◌, length};
+ghost use Rattle.std.specs.Prelude.{OnOk, IfOk, IfErr, IsOkUnless};
 ghost use Rattle.sexp_read.specs.Token.{Token, Open, Close, Atom};
 ghost use Rattle.sexp_read.specs.Tree.{depth_limit};
 ghost use Rattle.sexp_read.specs.Fault.{open_lists};
@@ -119,6 +123,7 @@ impl Builder {
         };
         self.add_member(number)
     }
+
     /// The forest of what was built, or the fault that a list is open.
     pub fn finish(self) -> Result<Forest, SexpFault>
         ensures ok { IfOk result (λ forest. (tokens : List Token) → HasBuilt tokens self → Holds tokens forest) }

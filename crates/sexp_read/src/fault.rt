@@ -1,3 +1,5 @@
+//! Why bytes are no text. Each fault is about one byte, and running out of memory is told apart.
+
 ghost use Rattle.std.specs.Prelude.{◌≡◌};
 ghost use Rattle.sexp_read.specs.declared.fault.SexpFault.TheVariants.{NoMemory};
 

@@ -1,3 +1,6 @@
+//! What is read of a text, with its accessors. Items are numbered in the order of their first bytes,
+//! so the members of a list have greater numbers than the list.
+
 ghost use Rattle.std.specs.Prelude.{◌≡◌, ℕ, ◌<◌, ◌≤◌, ◌↔◌, List, Some, length, IsTrue, IfSome, option_map};
 ghost use Rattle.std.specs.List.{All};
 ghost use Rattle.sexp_read.specs.Forest.{IsReading, text_at, atom_at, children_at, head_at};

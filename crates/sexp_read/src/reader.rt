@@ -1,3 +1,6 @@
+//! The one pass over the bytes. Before each byte the reader has built the tokens that ended before it,
+//! and knows whether a word or a comment goes on.
+
 ghost use Rattle.std.specs.Prelude.{◌≡◌, ◌≢◌, ℕ, ◌+◌, ◌^◌, ◌<◌, ◌≤◌, ◌⊎◌, List, length, OnOk, IfOk, IfErr, IsOkUnless};
 ghost use Rattle.sexp_read.specs.Token.{tokens};
 ghost use Rattle.sexp_read.specs.Tree.{Trees, flatten};
@@ -173,12 +176,16 @@ pub fn read(alloc: Global, bytes: &[u8]) -> Result<Forest, SexpFault>
 
 /// A text is at most one list of trees, so it has at most one reading.
 pub fn one_reading()
-    ensures trees { (bytes : List ℕ) (some others : Trees) → tokens bytes ≡ flatten some → tokens bytes ≡ flatten others → some ≡ others }
-    ensures forest { (bytes : List ℕ) (some other : Forest) → IsReading bytes some → IsReading bytes other → some ≡ other }
+    ensures trees { (bytes : List ℕ) (some others : Trees) →
+        tokens bytes ≡ flatten some → tokens bytes ≡ flatten others → some ≡ others }
+    ensures forest { (bytes : List ℕ) (some other : Forest) →
+        IsReading bytes some → IsReading bytes other → some ≡ other }
 {}
 
 /// No text has both a reading and a fault, or two faults.
 pub fn one_fault()
-    ensures reading { (bytes : List ℕ) (forest : Forest) (fault : SexpFault) → IsReading bytes forest → IsFault bytes fault → ⊥ }
-    ensures fault { (bytes : List ℕ) (fault other : SexpFault) → IsFault bytes fault → IsFault bytes other → fault ≡ other }
+    ensures reading { (bytes : List ℕ) (forest : Forest) (fault : SexpFault) →
+        IsReading bytes forest → IsFault bytes fault → ⊥ }
+    ensures fault { (bytes : List ℕ) (fault other : SexpFault) →
+        IsFault bytes fault → IsFault bytes other → fault ≡ other }
 {}

@@ -1,3 +1,5 @@
+//! What a single byte does: whether it may stand in a text, and its class outside of comments.
+
 ghost use Rattle.std.specs.Prelude.{◌≡◌};
 ghost use Rattle.sexp_read.specs.Token.{is_text_byte, class_of};
 
