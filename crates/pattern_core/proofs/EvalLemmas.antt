@@ -12,7 +12,10 @@ use Rattle.bv_terms.specs.declared.value.Value.{Value}
 use Rattle.bv_terms.specs.declared.value.Value.TheVariants as val
 use Rattle.bv_terms.specs.Term.{Term, value}
 use Rattle.bv_terms.specs.Sorts.{HasSort, HaveSorts, sort_of, InputsFit}
-use Rattle.bv_terms.specs.Table.{terms_of, term_in, term_at}
+use Rattle.std.proofs.Common.{All, Contains}
+use Rattle.std.proofs.lemmas.List.Elements.{All-head, All-tail}
+use Rattle.bv_terms.specs.Eval.{values_in, IsValued}
+use Rattle.bv_terms.specs.Table.{Table, terms_of, term_in, term_at}
 use Rattle.bv_terms.proofs.TableLemmas.{slice_get-append, slice_get-at_end}
 use Rattle.bv_terms.proofs.TermLemmas.{HaveSorts-at, value-sorted}
 use Rattle.isel_spec.specs.declared.definitions.OpDef.{OpDef}
@@ -231,3 +234,16 @@ IsGiven-more s g_at nodes inputs outs place n new more h at l item given is grow
 
 pub IsGiven-end : (s : Spec) (g_at : ℕ) (nodes : List Node) (inputs : List Value) (outs : List (List Value)) (place : ℕ) → IsGiven s g_at nodes inputs outs place → length nodes ≤ place → outs ≡ outs_from (file s) inputs [] nodes
 IsGiven-end s g_at nodes inputs outs place h l = sym (at_drop_all (outs_from (file s) inputs outs) nodes place l) ∙ h.so_far
+
+-- ---- values in the places of nodes
+
+-- where the values of some nodes' terms stand, those of results among them do
+pub values-stand : (table : Table) (inputs room : List Value) (nodes results : List TermId) → All (IsValued table inputs room) nodes
+    → All (Contains nodes) results → values_in room results ≡ map (λ (at : TermId). value inputs (term_at table at)) results
+values-stand table inputs room nodes [] all within = refl
+values-stand table inputs room nodes (at ∷ results) all within =
+    let there = All-head (Contains nodes) at results within in
+    let here = subst (IsValued table inputs room) there.2 (all there.0 at there.1) in
+    let first = ap (λ (o : Option Value). unwrap_or o (val.Bool false)) here in
+    let rest = values-stand table inputs room nodes results all (All-tail (Contains nodes) at results within) in
+    λ i. first i ∷ rest i

@@ -3,6 +3,7 @@
 ghost use Rattle.std.specs.Prelude.{◌≡◌, ℕ, ◌<◌, ◌≤◌, ◌++◌, List, [], length, map, Some, slice_get, unwrap_or, false, IfOk, OnOk, All};
 ghost use Rattle.bv_terms.specs.declared.op.TermId.{TermId};
 ghost use Rattle.bv_terms.specs.Term.{value};
+ghost use Rattle.bv_terms.specs.Eval.{values_in};
 ghost use Rattle.bv_terms.specs.Sorts.{HaveSorts, InputsFit};
 ghost use Rattle.bv_terms.specs.Table.{term_at};
 ghost use Rattle.isel_spec.specs.File.{Goal};
@@ -16,7 +17,29 @@ use isel_spec::{OpDef, Spec};
 use collections::Seq;
 use std::alloc::{AllocError, Global};
 
-/// The values of terms of a table, in order. `room` has a place for each node of the table.
+/// The value in a place; past the end, where no source of a well-formed pattern leads, some value.
+fn value_at(values: &[Value], place: usize) -> Value
+    ensures { result ≡ unwrap_or (slice_get values.now place) (Value.Bool false) }
+{
+    if place >= values.len() {
+        return Value::Bool(false);
+    }
+    values[place]
+}
+
+/// What stands in the places of nodes, in order.
+fn values_at(alloc: Global, nodes: &[TermId], room: &[Value]) -> Result<Vec<Value>, AllocError>
+    ensures { IfOk result (λ v. v.items ≡ values_in room.now nodes.now) }
+{
+    let mut values = Vec::new(alloc);
+    for at in nodes {
+        values.push(value_at(room, at.0))?;
+    }
+    Ok(values)
+}
+
+/// The values of terms of a table, in order. `room` has a place for each node of the table, but only
+/// the nodes of the terms' subterms are evaluated.
 fn values_of(
     alloc: Global,
     terms: &Terms,
@@ -29,11 +52,11 @@ fn values_of(
     requires room { length terms.now.nodes ≤ length room.old }
     ensures { IfOk result (λ v. v.items ≡ map (λ (at : TermId). value env.now.values (term_at terms.now at)) results.now) }
 {
-    let mut values = Vec::new(alloc);
-    for at in results {
-        values.push(terms.eval(*at, env, room))?;
-    }
-    Ok(values)
+    // That inputs which fit the terms fit their subterms rests on the table, as `len` tells it.
+    terms.len();
+    let nodes = terms.subterms(alloc, results)?;
+    terms.eval_nodes(&nodes, env, room);
+    values_at(alloc, results, room)
 }
 
 /// The goal's results where its arguments have these values. An `Err` is want of memory.
@@ -54,16 +77,6 @@ pub fn eval_goal(
     };
     let results = definition.results.as_slice();
     values_of(alloc, &spec.terms, results, &env, &mut room)
-}
-
-/// The value in a place; past the end, where no source of a well-formed pattern leads, some value.
-fn value_at(values: &[Value], place: usize) -> Value
-    ensures { result ≡ unwrap_or (slice_get values.now place) (Value.Bool false) }
-{
-    if place >= values.len() {
-        return Value::Bool(false);
-    }
-    values[place]
 }
 
 /// The value of a source, where the inputs and the results of the nodes so far have these values.
