@@ -125,8 +125,11 @@ same_pattern p q a b e =
     let by_results = slice_cmp source_cmp p.results q.results in
     let second = then_second by_size (ordering_then by_multiset (ordering_then by_nodes by_results)) e in
     let third = then_second by_multiset (ordering_then by_nodes by_results) second in
-    let nodes = same_lists HasSmall node_cmp same_node p.nodes q.nodes a.nodes b.nodes (then_first by_nodes by_results third) in
-    let results = same_lists IsSmall source_cmp same_source p.results q.results a.results b.results (then_second by_nodes by_results third) in
+    let nodes =
+        same_lists HasSmall node_cmp same_node p.nodes q.nodes a.nodes b.nodes (then_first by_nodes by_results third) in
+    let results =
+        same_lists IsSmall source_cmp same_source p.results q.results a.results b.results
+        (then_second by_nodes by_results third) in
     λ i. record { nodes = nodes i; results = results i }
 
 -- ---- the sources of a well-formed pattern
@@ -137,7 +140,8 @@ pub record IsLimited (f : File) (g : Goal) : Type 0 where
   pub sorted : Each (λ (t : Term). IsSome (sort_of t)) g.results
   pub results : (k : ℕ) (o : Operation) → slice_get f.ops k ≡ Some o → length o.results ≤ 3
 
-is_some : {A B : Type 0} (F : A → Option B) (x : Option A) (y : B) → option_and_then F x ≡ Some y → (a : A) × (x ≡ Some a)
+is_some : {A B : Type 0} (F : A → Option B) (x : Option A) (y : B) → option_and_then F x ≡ Some y
+    → (a : A) × (x ≡ Some a)
 is_some F None y e = absurd (cc)
 is_some F (Some a) y e = (a, refl)
 
@@ -162,13 +166,16 @@ small_source f g limits nodes k (Input i) t e =
     omega (arith, within, four)
 small_source f g limits nodes k (Out node result) t e =
     let op = option_and_then (λ (n : Node). slice_get f.ops n.op) (slice_get nodes node) in
-    small_result op result t (λ p. few (slice_get nodes node) p) (in_then (nat_lt node k) (operation_sort op result) t e)
+    small_result op result t (λ p. few (slice_get nodes node) p)
+        (in_then (nat_lt node k) (operation_sort op result) t e)
   where
-    few : (n : Option Node) (p : Operation) → option_and_then (λ (n : Node). slice_get f.ops n.op) n ≡ Some p → length p.results ≤ 3
+    few : (n : Option Node) (p : Operation) → option_and_then (λ (n : Node). slice_get f.ops n.op) n ≡ Some p
+        → length p.results ≤ 3
     few None p e = absurd (cc)
     few (Some n) p e = limits.results n.op p e
 
-small_sources : (f : File) (g : Goal) → IsLimited f g → (nodes : List Node) (k : ℕ) (xs : List Src) (os : List (Option Sort))
+small_sources : (f : File) (g : Goal) → IsLimited f g
+    → (nodes : List Node) (k : ℕ) (xs : List Src) (os : List (Option Sort))
     → map (source_sort f g nodes k) xs ≡ os → Each (λ (o : Option Sort). IsSome o) os → Each IsSmall xs
 small_sources f g limits nodes k [] os e all = tt
 small_sources f g limits nodes k (x ∷ xs) [] e all = absurd (cc)
@@ -182,11 +189,13 @@ all_some : (ss : List Sort) → Each (λ (o : Option Sort). IsSome o) (map (λ s
 all_some [] = tt
 all_some (s ∷ ss) = (refl, all_some ss)
 
-some_of : (ts : List Term) → Each (λ (t : Term). IsSome (sort_of t)) ts → Each (λ (o : Option Sort). IsSome o) (map sort_of ts)
+some_of : (ts : List Term) → Each (λ (t : Term). IsSome (sort_of t)) ts
+    → Each (λ (o : Option Sort). IsSome o) (map sort_of ts)
 some_of [] all = tt
 some_of (t ∷ ts) all = (all.0, some_of ts all.1)
 
-each_from_places : {A : Type 0} (P : A → Type 0) (xs : List A) → ((k : ℕ) (x : A) → slice_get xs k ≡ Some x → P x) → Each P xs
+each_from_places : {A : Type 0} (P : A → Type 0) (xs : List A) → ((k : ℕ) (x : A) → slice_get xs k ≡ Some x → P x)
+    → Each P xs
 each_from_places P [] h = tt
 each_from_places P (x ∷ xs) h = (h zero x refl, each_from_places P xs (λ k. h (suc k)))
 
@@ -195,8 +204,11 @@ unfolding HasSmall
 small_pattern f g limits p wf = record {
   nodes = each_from_places HasSmall p.nodes (λ k n e.
     let fit = wf.nodes k n e in
-    small_sources f g limits p.nodes k n.args (map (λ s. Some s) fit.operation.args) fit.args (all_some fit.operation.args));
-  results = small_sources f g limits p.nodes (length p.nodes) p.results (map sort_of g.results) wf.results (some_of g.results limits.sorted);
+    small_sources f g limits p.nodes k n.args (map (λ s. Some s) fit.operation.args) fit.args
+        (all_some fit.operation.args));
+  results =
+      small_sources f g limits p.nodes (length p.nodes) p.results (map sort_of g.results) wf.results
+      (some_of g.results limits.sorted);
 }
 
 pub is_total_order : (f : File) (g : Goal) → IsLimited f g → IsTotalOrderOf (IsWellFormed f g) pattern_cmp
@@ -208,7 +220,8 @@ is_total_order f g limits = record {
 
 -- ---- what a `Spec` keeps
 
-list_all_at : {X : Type 0} (p : X → Bool) (xs : List X) (k : ℕ) (x : X) → list_all p xs ≡ true → slice_get xs k ≡ Some x → p x ≡ true
+list_all_at : {X : Type 0} (p : X → Bool) (xs : List X) (k : ℕ) (x : X) → list_all p xs ≡ true → slice_get xs k ≡ Some x
+    → p x ≡ true
 list_all_at p [] k x h e = absurd (cc)
 list_all_at p (y ∷ ys) zero x h e = let s : y ≡ x = cc in ap p (sym s) ∙ (and_parts (p y) (list_all p ys) h).0
 list_all_at p (y ∷ ys) (suc k) x h e = list_all_at p ys k x (and_parts (p y) (list_all p ys) h).1 e
@@ -249,11 +262,13 @@ sound_goal table e h =
     record { few = leb-true (length e.1.args) 4 (and_parts a n p.0).0; results = p.1 }
 
 term_there : (ts : List Term) (k : ℕ) → k < length ts → slice_get ts k ≡ Some (term_in ts k)
-term_there ts k l = slice_get-get_or ts k (term_in [] 0) l ∙ ap (λ t. Some t) (sym (unwrap_or-slice_get ts k (term_in [] 0)))
+term_there ts k l =
+    slice_get-get_or ts k (term_in [] 0) l ∙ ap (λ t. Some t) (sym (unwrap_or-slice_get ts k (term_in [] 0)))
 
 -- results that stand in a table have sorts
 sorted_results : (table : Table) → IsTable table → (ss : List Sort) (ats : List TermId)
-    → are_sound table ss ats ≡ true → Each (λ (t : Term). IsSome (sort_of t)) (map (λ (a : TermId). term_in (terms_of table) a.0) ats)
+    → are_sound table ss ats ≡ true
+        → Each (λ (t : Term). IsSome (sort_of t)) (map (λ (a : TermId). term_in (terms_of table) a.0) ats)
 sorted_results table is ss [] h = tt
 sorted_results table is ss (at ∷ ats) h =
     let there = nat_lt at.0 (length table.nodes) in
@@ -261,16 +276,20 @@ sorted_results table is ss (at ∷ ats) h =
     let both = and_parts (there && stays) (are_sound table ss ats) h in
     let within = ltb-true at.0 (length table.nodes) (and_parts there stays both.0).0 in
     let long = length-terms_of table in
-    let first = is.well_sorted at.0 (term_in (terms_of table) at.0) (term_there (terms_of table) at.0 (omega (arith, within, long))) in
+    let first =
+        is.well_sorted at.0 (term_in (terms_of table) at.0)
+        (term_there (terms_of table) at.0 (omega (arith, within, long))) in
     (first, sorted_results table is ss ats both.1)
 
 limited_goal : (table : Table) → IsTable table → (e : List ℕ × GoalDef) → is_sound_goal table e ≡ true
     → (length (goal table e).args ≤ 4) × Each (λ (t : Term). IsSome (sort_of t)) (goal table e).results
 limited_goal table is e h =
     let k = sound_goal table e h in
-    (subst (λ n. n ≤ 4) (sym (length-map e.1.args (λ a. a.1))) k.few, sorted_results table is (map (λ a. a.1) e.1.args) e.1.results k.results)
+    (subst (λ n. n ≤ 4) (sym (length-map e.1.args (λ a. a.1))) k.few,
+        sorted_results table is (map (λ a. a.1) e.1.args) e.1.results k.results)
 
-pub IsLimited-from_spec : (s : Spec) (k : ℕ) (g : Goal) → IsTable s.terms → slice_get (file s).goals k ≡ Some g → IsLimited (file s) g
+pub IsLimited-from_spec : (s : Spec) (k : ℕ) (g : Goal) → IsTable s.terms → slice_get (file s).goals k ≡ Some g
+    → IsLimited (file s) g
 IsLimited-from_spec s k g table e =
     let at = mapped_at (goal s.terms) s.goals k g e in
     let v = s.pointer == s.terms.pointer in

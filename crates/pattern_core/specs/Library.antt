@@ -31,7 +31,8 @@ pub record AreRules (f : File) (g : Goal) (size : ℕ) (rules : List Pattern) : 
 
 abbrev pub IsLibrary : File → Goal → ℕ → List Pattern → Type 0
 IsLibrary f g bound rules =
-    (HasNoRule f g bound × (rules ≡ [])) ⊎ ((size : ℕ) × (size ≤ bound) × IsLeastSize f g size × AreRules f g size rules)
+    (HasNoRule f g bound × (rules ≡ []))
+    ⊎ ((size : ℕ) × (size ≤ bound) × IsLeastSize f g size × AreRules f g size rules)
 
 -- a pattern that a library may list: it gives the goal's results on every input
 pub record IsRight (f : File) (g : Goal) (bound size : ℕ) (p : Pattern) : Type 0 where
@@ -41,7 +42,8 @@ pub record IsRight (f : File) (g : Goal) (bound size : ℕ) (p : Pattern) : Type
   pub within : size ≤ bound
   pub rule : IsRule f g p
 
--- right on every input, with none missing: all the patterns of the least size that has one, or none exists within the bound
+-- right on every input, with none missing: all the patterns of the least size that has one, or there are none within
+-- the bound
 abbrev pub IsAnswer : File → Goal → ℕ → GoalAnswer → Type 0
 IsAnswer f g bound (answer.Complete size rules) =
     (rules ≢ []) × All (IsRight f g bound size) rules × IsLibrary f g bound rules

@@ -1,6 +1,8 @@
 -- Patterns: which are well-formed for a goal, and what they compute.
--- Patterns as programs over components: Gulwani, Jha, Tiwari, Venkatesan, PLDI 2011; rules: Buchwald, Fried, Hack, CGO 2018.
-use Rattle.std.specs.Prelude.{◌≡◌, ℕ, ◌^◌, ◌<◌, ◌≤◌, List, [], ◌∷◌, ◌++◌, length, map, Option, Some, None, slice_get, unwrap_or, false, Contains, nat_lt, option_and_then, ◌⊎◌, if◌then◌else◌}
+-- Patterns as programs over components: Gulwani, Jha, Tiwari, Venkatesan, PLDI 2011.
+-- Rules: Buchwald, Fried, Hack, CGO 2018.
+use Rattle.std.specs.Prelude.{◌≡◌, ℕ, ◌^◌, ◌<◌, ◌≤◌, List, [], ◌∷◌, ◌++◌, length, map, Option, Some, None, slice_get}
+use Rattle.std.specs.Prelude.{unwrap_or, false, Contains, nat_lt, option_and_then, ◌⊎◌, if◌then◌else◌}
 use Rattle.bv_terms.specs.declared.value.Sort.{Sort}
 use Rattle.bv_terms.specs.declared.value.Sort.TheVariants as sort
 use Rattle.bv_terms.specs.declared.value.Value.{Value}
@@ -16,7 +18,8 @@ use Rattle.pattern_core.specs.declared.pattern.Pattern.{Pattern}
 -- the value of a source, where the inputs and the nodes' results have these values
 abbrev pub source_value : List Value → List (List Value) → Src → Value
 source_value inputs outs (Input k) = unwrap_or (slice_get inputs k) (val.Bool false)
-source_value inputs outs (Out node result) = unwrap_or (slice_get (unwrap_or (slice_get outs node) []) result) (val.Bool false)
+source_value inputs outs (Out node result) =
+    unwrap_or (slice_get (unwrap_or (slice_get outs node) []) result) (val.Bool false)
 
 -- numbers as bit-vectors of these widths
 abbrev pub attr_values : List ℕ → List ℕ → List Value
@@ -32,7 +35,8 @@ op_results (Some o) attrs args = map (value (args ++ attr_values o.attrs attrs))
 abbrev pub outs_from : File → List Value → List (List Value) → List Node → List (List Value)
 outs_from f inputs outs [] = outs
 outs_from f inputs outs (n ∷ ns) =
-    outs_from f inputs (outs ++ op_results (slice_get f.ops n.op) n.attrs (map (source_value inputs outs) n.args) ∷ []) ns
+    let results = op_results (slice_get f.ops n.op) n.attrs (map (source_value inputs outs) n.args) in
+    outs_from f inputs (outs ++ results ∷ []) ns
 
 abbrev pub pattern_results : File → Pattern → List Value → List Value
 pattern_results f p inputs = map (source_value inputs (outs_from f inputs [] p.nodes)) p.results
@@ -40,8 +44,8 @@ pattern_results f p inputs = map (source_value inputs (outs_from f inputs [] p.n
 abbrev pub goal_results : Goal → List Value → List Value
 goal_results g inputs = map (value inputs) g.results
 
--- No argument and no result of the goal is a memory. Nothing is claimed of any other goal: a memory has no values yet, so
--- each pattern would give the results of a goal that takes one, on all of its inputs.
+-- No argument and no result of the goal is a memory. Nothing is claimed of any other goal: a memory has no values yet,
+-- so each pattern would give the results of a goal that takes one, on all of its inputs.
 pub record HasNoMemory (g : Goal) : Type 0 where
   pub args : ¬ Contains g.args sort.Mem
   pub results : ¬ Contains (map sort_of g.results) (Some sort.Mem)
@@ -96,7 +100,9 @@ IsAmong k sources = (result : ℕ) × Contains sources (Out k result)
 -- a later node or a result uses node k
 abbrev pub IsUsed : Pattern → ℕ → Type 0
 IsUsed p k =
-    (result : ℕ) × (Contains p.results (Out k result) ⊎ ((j : ℕ) × Contains (args_of (slice_get p.nodes j)) (Out k result)))
+    (result : ℕ)
+    × (Contains p.results (Out k result)
+        ⊎ ((j : ℕ) × Contains (args_of (slice_get p.nodes j)) (Out k result)))
 
 -- what is a pattern for a goal
 pub record IsWellFormed (f : File) (g : Goal) (p : Pattern) : Type 0 where

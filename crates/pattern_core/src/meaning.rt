@@ -1,6 +1,8 @@
-//! The values that goals and patterns give.
+//! The values that goals and patterns give. A pattern's nodes are evaluated in order, and the results so
+//! far have their operations' sorts.
 
-ghost use Rattle.std.specs.Prelude.{◌≡◌, ℕ, ◌<◌, ◌≤◌, ◌++◌, List, [], length, map, Some, slice_get, unwrap_or, false, IfOk, OnOk, All};
+ghost use Rattle.std.specs.Prelude.{◌≡◌, ℕ, ◌<◌, ◌≤◌, ◌++◌, List, [], length, map, Some, slice_get, unwrap_or, false};
+ghost use Rattle.std.specs.Prelude.{IfOk, OnOk, All};
 ghost use Rattle.bv_terms.specs.declared.op.TermId.{TermId};
 ghost use Rattle.bv_terms.specs.Term.{value};
 ghost use Rattle.bv_terms.specs.Eval.{values_in};
@@ -8,7 +10,8 @@ ghost use Rattle.bv_terms.specs.Sorts.{HaveSorts, InputsFit};
 ghost use Rattle.bv_terms.specs.Table.{term_at};
 ghost use Rattle.isel_spec.specs.File.{Goal};
 ghost use Rattle.isel_spec.specs.Spec.{file};
-ghost use Rattle.pattern_core.specs.Pattern.{source_value, attr_values, op_results, outs_from, pattern_results, goal_results, AreFitting, IsWellFormed};
+ghost use Rattle.pattern_core.specs.Pattern.{source_value, attr_values, op_results, outs_from, pattern_results};
+ghost use Rattle.pattern_core.specs.Pattern.{goal_results, AreFitting, IsWellFormed};
 ghost use Rattle.pattern_core.specs.Meaning.{IsNodeGiven};
 
 use crate::pattern::{Node, Pattern, Src};
@@ -50,7 +53,8 @@ fn values_of(
     requires there { All (λ (at : TermId). at.0 < length terms.now.nodes) results.now }
     requires inputs { All (λ (at : TermId). InputsFit env.now.values (term_at terms.now at)) results.now }
     requires room { length terms.now.nodes ≤ length room.old }
-    ensures { IfOk result (λ v. v.items ≡ map (λ (at : TermId). value env.now.values (term_at terms.now at)) results.now) }
+    ensures { IfOk result (λ v.
+        v.items ≡ map (λ (at : TermId). value env.now.values (term_at terms.now at)) results.now) }
 {
     // That inputs which fit the terms fit their subterms rests on the table, as `len` tells it.
     terms.len();
@@ -59,7 +63,7 @@ fn values_of(
     values_at(alloc, results, room)
 }
 
-/// The goal's results where its arguments have these values. An `Err` is want of memory.
+/// The goal's results where its arguments have these values. An `Err` is out of memory.
 pub fn eval_goal(
     alloc: Global,
     spec: &Spec,
@@ -68,7 +72,8 @@ pub fn eval_goal(
 ) -> Result<Vec<Value>, AllocError>
     requires there { goal < length spec.now.goals }
     requires inputs { (g : Goal) → slice_get (file spec.now).goals goal ≡ Some g → HaveSorts g.args inputs.now }
-    ensures { IfOk result (λ v. (g : Goal) → slice_get (file spec.now).goals goal ≡ Some g → v.items ≡ goal_results g inputs.now) }
+    ensures { IfOk result (λ v. (g : Goal) → slice_get (file spec.now).goals goal ≡ Some g
+        → v.items ≡ goal_results g inputs.now) }
 {
     let mut room = vec![in alloc; Value::Bool(false); spec.terms.len()]?;
     let definition = spec.goal(goal);
@@ -132,7 +137,8 @@ fn node_inputs(
     inputs: &[Value],
     outs: &[Seq<Value>],
 ) -> Result<Env, AllocError>
-    ensures { IfOk result (λ env. env.values ≡ map (source_value inputs.now outs.now) node.now.args ++ attr_values operation.now.attrs node.now.attrs) }
+    ensures { IfOk result (λ env. env.values ≡ map (source_value inputs.now outs.now) node.now.args
+        ++ attr_values operation.now.attrs node.now.attrs) }
 {
     let mut values = source_values(alloc, inputs, outs, node.args.as_slice())?;
     add_attributes(
@@ -156,7 +162,8 @@ fn node_results(
 ) -> Result<Vec<Value>, AllocError>
     requires given { IsNodeGiven spec.now node.now inputs.now outs.now }
     requires room { length spec.now.terms.nodes ≤ length room.old }
-    ensures { IfOk result (λ v. v.items ≡ op_results (slice_get (file spec.now).ops node.now.op) node.now.attrs (map (source_value inputs.now outs.now) node.now.args)) }
+    ensures { IfOk result (λ v. v.items ≡ op_results (slice_get (file spec.now).ops node.now.op) node.now.attrs
+        (map (source_value inputs.now outs.now) node.now.args)) }
 {
     let operation = spec.op(usize::from(node.op));
     let env = node_inputs(alloc, operation, node, inputs, outs)?;
@@ -174,7 +181,8 @@ fn all_results(
     room: &mut [Value],
 ) -> Result<Vec<Seq<Value>>, AllocError>
     requires there { goal < length spec.now.goals }
-    requires fits { (g : Goal) → slice_get (file spec.now).goals goal ≡ Some g → AreFitting (file spec.now) g nodes.now }
+    requires fits { (g : Goal) → slice_get (file spec.now).goals goal ≡ Some g
+        → AreFitting (file spec.now) g nodes.now }
     requires inputs { (g : Goal) → slice_get (file spec.now).goals goal ≡ Some g → HaveSorts g.args inputs.now }
     requires room { length spec.now.terms.nodes ≤ length room.old }
     ensures { IfOk result (λ outs. outs.items ≡ outs_from (file spec.now) inputs.now [] nodes.now) }
@@ -189,7 +197,7 @@ fn all_results(
 }
 
 /// The results of a pattern that is well-formed for the goal, where the goal's arguments have these
-/// values. An `Err` is want of memory.
+/// values. An `Err` is out of memory.
 pub fn eval(
     alloc: Global,
     spec: &Spec,
@@ -198,7 +206,8 @@ pub fn eval(
     inputs: &[Value],
 ) -> Result<Vec<Value>, AllocError>
     requires there { goal < length spec.now.goals }
-    requires well_formed { (g : Goal) → slice_get (file spec.now).goals goal ≡ Some g → IsWellFormed (file spec.now) g pattern.now }
+    requires well_formed { (g : Goal) → slice_get (file spec.now).goals goal ≡ Some g
+        → IsWellFormed (file spec.now) g pattern.now }
     requires inputs { (g : Goal) → slice_get (file spec.now).goals goal ≡ Some g → HaveSorts g.args inputs.now }
     ensures { IfOk result (λ v. v.items ≡ pattern_results (file spec.now) pattern.now inputs.now) }
 {

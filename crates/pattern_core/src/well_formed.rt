@@ -1,4 +1,4 @@
-//! Whether a pattern is well-formed for a goal.
+//! Whether a pattern is well-formed for a goal: each test of a part is exact, and so is the whole.
 
 ghost use Rattle.std.specs.Prelude.{◌≡◌, ◌↔◌, ℕ, ◌<◌, ◌≤◌, ◌^◌, List, length, map, Some, slice_get, IsTrue};
 ghost use Rattle.bv_terms.specs.declared.value.Sort.{Sort};
@@ -6,7 +6,8 @@ ghost use Rattle.bv_terms.specs.Sorts.{sort_of};
 ghost use Rattle.pattern_core.specs.declared.pattern.Node.{Node};
 ghost use Rattle.isel_spec.specs.File.{Goal};
 ghost use Rattle.isel_spec.specs.Spec.{file};
-ghost use Rattle.pattern_core.specs.Pattern.{operation_sort, source_sort, Pairwise, IsFitting, AreFitting, IsOf, IsAmong, IsUsed, IsWellFormed};
+ghost use Rattle.pattern_core.specs.Pattern.{operation_sort, source_sort, Pairwise, IsFitting, AreFitting, IsOf};
+ghost use Rattle.pattern_core.specs.Pattern.{IsAmong, IsUsed, IsWellFormed};
 
 use crate::pattern::{Node, Pattern, Src};
 use bv_terms::Sort;
@@ -52,11 +53,12 @@ fn input_sort(spec: &Spec, goal: u32, input: u8) -> Option<Sort>
     Some(sort)
 }
 
-/// The sort of a source of a node or a result that stands after so many nodes, where it has one.
+/// The sort of a source of a node or a result that stands after `count` nodes, where it has one.
 fn source_sort(spec: &Spec, goal: u32, nodes: &[Node], count: usize, source: Src) -> Option<Sort>
     requires there { goal < length spec.now.goals }
     requires within { count ≤ length nodes.now }
-    ensures { (g : Goal) → slice_get (file spec.now).goals goal ≡ Some g → result ≡ source_sort (file spec.now) g nodes.now count source }
+    ensures { (g : Goal) → slice_get (file spec.now).goals goal ≡ Some g
+        → result ≡ source_sort (file spec.now) g nodes.now count source }
 {
     match source {
         Src::Input(input) => input_sort(spec, goal, input),
@@ -70,7 +72,7 @@ fn source_sort(spec: &Spec, goal: u32, nodes: &[Node], count: usize, source: Src
     }
 }
 
-/// Whether sources of a node or of results that stand after so many nodes have these sorts.
+/// Whether sources of a node or of results that stand after `count` nodes have these sorts.
 fn have_sorts(
     spec: &Spec,
     goal: u32,
@@ -82,7 +84,8 @@ fn have_sorts(
     requires there { goal < length spec.now.goals }
     requires within { count ≤ length nodes.now }
     ensures { (g : Goal) → slice_get (file spec.now).goals goal ≡ Some g →
-        (IsTrue result ↔ (map (source_sort (file spec.now) g nodes.now count) sources.now ≡ map (λ (s : Sort). Some s) sorts.now)) }
+        (IsTrue result
+            ↔ (map (source_sort (file spec.now) g nodes.now count) sources.now ≡ map (λ (s : Sort). Some s) sorts.now)) }
 {
     if sources.len() != sorts.len() {
         return false;
@@ -100,7 +103,8 @@ fn have_sorts(
 fn have_result_sorts(spec: &Spec, goal: u32, nodes: &[Node], sources: &[Src]) -> bool
     requires { goal < length spec.now.goals }
     ensures { (g : Goal) → slice_get (file spec.now).goals goal ≡ Some g →
-        (IsTrue result ↔ (map (source_sort (file spec.now) g nodes.now (length nodes.now)) sources.now ≡ map sort_of g.results)) }
+        (IsTrue result
+            ↔ (map (source_sort (file spec.now) g nodes.now (length nodes.now)) sources.now ≡ map sort_of g.results)) }
 {
     let results = spec.goal(goal).results.as_slice();
     if sources.len() != results.len() {
@@ -146,7 +150,8 @@ fn is_fitting(spec: &Spec, goal: u32, nodes: &[Node], place: usize) -> bool
     requires there { goal < length spec.now.goals }
     requires within { place < length nodes.now }
     ensures { (g : Goal) → slice_get (file spec.now).goals goal ≡ Some g →
-        (n : Node) → slice_get nodes.now place ≡ Some n → (IsTrue result ↔ IsFitting (file spec.now) g nodes.now place n) }
+        (n : Node) → slice_get nodes.now place ≡ Some n
+        → (IsTrue result ↔ IsFitting (file spec.now) g nodes.now place n) }
 {
     let node = &nodes[place];
     let op = usize::from(node.op);
@@ -171,7 +176,8 @@ fn is_fitting(spec: &Spec, goal: u32, nodes: &[Node], place: usize) -> bool
 /// Whether each node's operation is in the file, and its attributes and arguments fit.
 fn are_fitting(spec: &Spec, goal: u32, nodes: &[Node]) -> bool
     requires { goal < length spec.now.goals }
-    ensures { (g : Goal) → slice_get (file spec.now).goals goal ≡ Some g → (IsTrue result ↔ AreFitting (file spec.now) g nodes.now) }
+    ensures { (g : Goal) → slice_get (file spec.now).goals goal ≡ Some g
+        → (IsTrue result ↔ AreFitting (file spec.now) g nodes.now) }
 {
     for place in 0..nodes.len() {
         if !is_fitting(spec, goal, nodes, place) {
@@ -233,7 +239,8 @@ fn are_used(pattern: &Pattern) -> bool
 /// by a result. It takes no memory.
 pub fn is_well_formed(spec: &Spec, goal: u32, pattern: &Pattern) -> bool
     requires { goal < length spec.now.goals }
-    ensures { (g : Goal) → slice_get (file spec.now).goals goal ≡ Some g → (IsTrue result ↔ IsWellFormed (file spec.now) g pattern.now) }
+    ensures { (g : Goal) → slice_get (file spec.now).goals goal ≡ Some g
+        → (IsTrue result ↔ IsWellFormed (file spec.now) g pattern.now) }
 {
     let nodes = pattern.nodes.as_slice();
     if nodes.len() > 6 || !are_fitting(spec, goal, nodes) {

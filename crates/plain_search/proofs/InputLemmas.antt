@@ -1,5 +1,6 @@
 -- The numbered inputs of some sorts are all the values of these sorts, and the number of inputs leads back to them.
-use Rattle.std.proofs.Common.{◌≡◌, ℕ, zero, suc, ◌+◌, ◌-◌, ◌*◌, ◌/◌, ◌%◌, ◌^◌, ◌<◌, ◌≤◌, true, false, List, [], ◌∷◌, length, map, drop, get_or}
+use Rattle.std.proofs.Common.{◌≡◌, ℕ, zero, suc, ◌+◌, ◌-◌, ◌*◌, ◌/◌, ◌%◌, ◌^◌, ◌<◌, ◌≤◌, true, false, List, [], ◌∷◌}
+use Rattle.std.proofs.Common.{length, map, drop, get_or}
 use Rattle.std.proofs.Common.{inl, inr, refl, sym, ap, subst, ◌∙◌, arith, sum_by, All}
 use Rattle.std.proofs.lemmas.Nat.{pow_pos, pow-add, mod_below, mul-add-lt, div-mul-add, mod-mul-add}
 use Rattle.std.proofs.Math.Pow.{pow_mono}
@@ -22,7 +23,8 @@ HasSort-numbered sort.Mem n h = absurd (h refl)
 -- none of the sorts is a memory
 pub HaveSorts-numbered : (ss : List Sort) (n : ℕ) → (In ss sort.Mem → ⊥) → HaveSorts ss (inputs_numbered ss n)
 HaveSorts-numbered [] n h = tt
-HaveSorts-numbered (s ∷ ss) n h = (HasSort-numbered s n (λ e. h (inl e)), HaveSorts-numbered ss (n / 2 ^ width_of s) (λ i. h (inr i)))
+HaveSorts-numbered (s ∷ ss) n h =
+    (HasSort-numbered s n (λ e. h (inl e)), HaveSorts-numbered ss (n / 2 ^ width_of s) (λ i. h (inr i)))
 
 -- ---- the number of inputs
 
@@ -42,7 +44,8 @@ value_numbered-number_of (sort.Bits w) (val.Bits v n) h = ap (λ u. val.Bits u n
 value_numbered-number_of (sort.Bits w) (val.Bool b) h = absurd h
 value_numbered-number_of sort.Mem v h = absurd h
 
-pub inputs_number_lt : (ss : List Sort) (vs : List Value) → HaveSorts ss vs → inputs_number ss vs < 2 ^ sum_by width_of ss
+pub inputs_number_lt : (ss : List Sort) (vs : List Value) → HaveSorts ss vs
+    → inputs_number ss vs < 2 ^ sum_by width_of ss
 inputs_number_lt [] [] h = omega arith
 inputs_number_lt [] (v ∷ vs) h = absurd h
 inputs_number_lt (s ∷ ss) [] h = absurd h
@@ -98,7 +101,8 @@ drop-map f [] (suc k) = refl
 drop-map f (x ∷ xs) (suc k) = drop-map f xs k
 
 -- as many sorts as places
-pub length-picked : (ss : List Sort) (vs : List Value) (ks : List ℕ) → HaveSorts ss (map (input_at vs) ks) → length ks ≡ length ss
+pub length-picked : (ss : List Sort) (vs : List Value) (ks : List ℕ) → HaveSorts ss (map (input_at vs) ks)
+    → length ks ≡ length ss
 length-picked [] vs [] h = refl
 length-picked [] vs (k ∷ ks) h = absurd h
 length-picked (s ∷ ss) vs [] h = absurd h
@@ -108,30 +112,39 @@ length-picked (s ∷ ss) vs (k ∷ ks) h = ap suc (length-picked ss vs ks h.1)
 abbrev pub number_from : ℕ → List Sort → List Value → List ℕ → ℕ
 number_from k ss vs ks = inputs_number (drop k ss) (map (input_at vs) (drop k ks))
 
-pub number_from-end : (ss : List Sort) (vs : List Value) (ks : List ℕ) (k : ℕ) → k ≡ length ks → 0 ≡ number_from k ss vs ks
+pub number_from-end : (ss : List Sort) (vs : List Value) (ks : List ℕ) (k : ℕ) → k ≡ length ks
+    → 0 ≡ number_from k ss vs ks
 number_from-end ss vs ks k e =
-    none (drop k ss) ∙ sym (ap (λ xs. inputs_number (drop k ss) (map (input_at vs) xs)) (drop_all k ks (omega (arith, e))))
+    none (drop k ss) ∙ sym (ap (λ xs. inputs_number (drop k ss) (map (input_at vs) xs))
+        (drop_all k ks (omega (arith, e))))
   where
     none : (us : List Sort) → 0 ≡ inputs_number us []
     none [] = refl
     none (u ∷ us) = refl
 
-pub number_from-more : (ss : List Sort) (vs : List Value) (ks : List ℕ) (k : ℕ) (s : Sort) → k < length ss → k < length ks
-    → number_from k ss vs ks ≡ number_from (k + 1) ss vs ks * 2 ^ width_of (get_or ss k s) + number_of (input_at vs (get_or ks k 0))
+pub number_from-more : (ss : List Sort) (vs : List Value) (ks : List ℕ) (k : ℕ) (s : Sort) → k < length ss
+    → k < length ks
+    → number_from k ss vs ks ≡ number_from (k + 1) ss vs ks * 2 ^ width_of (get_or ss k s) + number_of
+        (input_at vs (get_or ks k 0))
 number_from-more ss vs ks k s l m =
     (λ i. inputs_number (drop_more ss k s l i) (map (input_at vs) (drop_more ks k 0 m i)))
 
-pub number_from-lt : (ss : List Sort) (vs : List Value) (ks : List ℕ) (k : ℕ) → ArePicked ss vs ks → number_from k ss vs ks < 2 ^ 16
+pub number_from-lt : (ss : List Sort) (vs : List Value) (ks : List ℕ) (k : ℕ) → ArePicked ss vs ks
+    → number_from k ss vs ks < 2 ^ 16
 number_from-lt ss vs ks k h =
-    let sorted = subst (HaveSorts (drop k ss)) (drop-map (input_at vs) ks k) (HaveSorts-drop ss (map (input_at vs) ks) k h.sorted) in
+    let sorted =
+        subst (HaveSorts (drop k ss)) (drop-map (input_at vs) ks k)
+        (HaveSorts-drop ss (map (input_at vs) ks) k h.sorted) in
     let below = inputs_number_lt (drop k ss) (map (input_at vs) (drop k ks)) sorted in
     let parts = sum_by-take-drop width_of ss k in
     let few = h.few in
-    let fits : 2 ^ sum_by width_of (drop k ss) ≤ 2 ^ 16 = pow_mono {i = sum_by width_of (drop k ss)} {j = 16} (omega (arith, parts, few)) in
+    let fits : 2 ^ sum_by width_of (drop k ss) ≤ 2 ^ 16 =
+        pow_mono {i = sum_by width_of (drop k ss)} {j = 16} (omega (arith, parts, few)) in
     omega (arith, below, fits)
 
 -- a sort that stands there is of few bits
-pub width-few : (ss : List Sort) (k : ℕ) (s : Sort) → k < length ss → sum_by width_of ss ≤ 16 → width_of (get_or ss k s) ≤ 16
+pub width-few : (ss : List Sort) (k : ℕ) (s : Sort) → k < length ss → sum_by width_of ss ≤ 16
+    → width_of (get_or ss k s) ≤ 16
 width-few ss k s l few =
     let parts = sum_by-take-drop width_of ss k in
     let more = sum_by-drop_more width_of ss k s l in
@@ -140,7 +153,8 @@ width-few ss k s l few =
 -- ---- what the code that goes through the places finds
 
 -- a place before the k-th, where the values of the places from the k-th on make a number
-pub record IsDigit (ss : List Sort) (vs : List Value) (ks : List ℕ) (k number from digit width : ℕ) (s : Sort) (d : Value) : Type 0 where
+pub record IsDigit (ss : List Sort) (vs : List Value) (ks : List ℕ) (k number from digit width : ℕ) (s : Sort)
+    (d : Value) : Type 0 where
   pub some : 0 < k
   pub within : k ≤ length ks
   pub so_far : number ≡ number_from k ss vs ks
@@ -148,7 +162,8 @@ pub record IsDigit (ss : List Sort) (vs : List Value) (ks : List ℕ) (k number 
   pub read : digit ≡ number_of (get_or vs from d)
   pub wide : width ≡ width_of (get_or ss (k - 1) s)
 
-pub number_step : (ss : List Sort) (vs : List Value) (ks : List ℕ) (k number from digit width : ℕ) (s : Sort) (d : Value)
+pub number_step : (ss : List Sort) (vs : List Value) (ks : List ℕ) (k number from digit width : ℕ) (s : Sort)
+    (d : Value)
     → ArePicked ss vs ks → All (λ (j : ℕ). j < length vs) ks → IsDigit ss vs ks k number from digit width s d
     → number * 2 ^ width + digit ≡ number_from (k - 1) ss vs ks
 number_step ss vs ks k number from digit width s d h inside e =
@@ -164,13 +179,16 @@ number_step ss vs ks k number from digit width s d h inside e =
     let high : number ≡ number_from (j + 1) ss vs ks = e.so_far ∙ ap (λ i. number_from i ss vs ks) (sym next) in
     (λ i. high i * 2 ^ e.wide i + (e.read ∙ ap number_of value) i) ∙ sym (number_from-more ss vs ks j s m l)
 
-pub number_step-fits : (ss : List Sort) (vs : List Value) (ks : List ℕ) (k number from digit width : ℕ) (s : Sort) (d : Value)
+pub number_step-fits : (ss : List Sort) (vs : List Value) (ks : List ℕ) (k number from digit width : ℕ) (s : Sort)
+    (d : Value)
     → ArePicked ss vs ks → All (λ (j : ℕ). j < length vs) ks → IsDigit ss vs ks k number from digit width s d
     → number * 2 ^ width + digit < 2 ^ 16
 number_step-fits ss vs ks k number from digit width s d h inside e =
-    subst (λ n. n < 2 ^ 16) (sym (number_step ss vs ks k number from digit width s d h inside e)) (number_from-lt ss vs ks (k - 1) h)
+    subst (λ n. n < 2 ^ 16) (sym (number_step ss vs ks k number from digit width s d h inside e))
+        (number_from-lt ss vs ks (k - 1) h)
 
-pub number_whole : (ss : List Sort) (vs : List Value) (ks : List ℕ) (k number : ℕ) → k ≤ 0 → number ≡ number_from k ss vs ks
+pub number_whole : (ss : List Sort) (vs : List Value) (ks : List ℕ) (k number : ℕ) → k ≤ 0
+    → number ≡ number_from k ss vs ks
     → number ≡ inputs_number ss (map (input_at vs) ks)
 number_whole ss vs ks k number none e =
     let first : k ≡ 0 = omega (arith, none) in

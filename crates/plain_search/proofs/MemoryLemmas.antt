@@ -1,5 +1,6 @@
 -- A term over inputs that are no memory is none.
-use Rattle.std.proofs.Common.{◌≡◌, ℕ, Bool, true, false, cond, List, [], ◌∷◌, length, map, Option, Some, None, inl, inr, refl, sym, ap, subst, ◌∙◌}
+use Rattle.std.proofs.Common.{◌≡◌, ℕ, Bool, true, false, cond, List, [], ◌∷◌, length, map, Option, Some, None, inl, inr}
+use Rattle.std.proofs.Common.{refl, sym, ap, subst, ◌∙◌}
 use Rattle.std.proofs.Common.{slice_get, Contains}
 use Rattle.std.specs.Prelude.{option_and_then, ◌==◌}
 use Rattle.std.specs.Option.{option_map_or}
@@ -35,7 +36,8 @@ no_memory_first o (s ∷ ss) h = by (length (sort.Mem ∷ (s ∷ ss)) == arity o
 
 no_memory_over : (o : Op) (s : Sort) (ss : List Sort) → sort_unless (refusal o (s ∷ ss)) s ≡ Some sort.Mem → ⊥
 no_memory_over o s ss h =
-    no_memory_first o ss (subst (λ t. sort_unless (refusal o (t ∷ ss)) t ≡ Some sort.Mem) (same_unless (refusal o (s ∷ ss)) s sort.Mem h) h)
+    no_memory_first o ss (subst (λ t. sort_unless (refusal o (t ∷ ss)) t ≡ Some sort.Mem)
+        (same_unless (refusal o (s ∷ ss)) s sort.Mem h) h)
 
 no_memory_alone : (f : Option MakeFault) → sort_unless f sort.Bool ≡ Some sort.Mem → ⊥
 no_memory_alone f h = let e = same_unless f sort.Bool sort.Mem h in cc
@@ -75,11 +77,14 @@ memory_among ss (Apply o ts) e h =
     let r = memory_input_of o (sorts_of ts) h in
     In-slice_get ss r.0 sort.Mem (sort_at (slice_get ss r.0) (subst (λ p. stays_in ss (Apply p ts) ≡ true) r.1 e))
 
-pub no_memory : (g : Goal) (t : Term) → g.results ≡ t ∷ [] → ¬ Contains g.args sort.Mem → stays_in g.args t ≡ true → HasNoMemory g
+pub no_memory : (g : Goal) (t : Term) → g.results ≡ t ∷ [] → ¬ Contains g.args sort.Mem → stays_in g.args t ≡ true
+    → HasNoMemory g
 no_memory g t one plain stays = record {
   args = plain;
   results = λ h.
-      let i = subst (λ ts. In (map sort_of ts) (Some sort.Mem)) one (In-from_Contains (map sort_of g.results) (Some sort.Mem) h) in
+      let i =
+          subst (λ ts. In (map sort_of ts) (Some sort.Mem)) one
+          (In-from_Contains (map sort_of g.results) (Some sort.Mem) h) in
       by i;
 }
   where

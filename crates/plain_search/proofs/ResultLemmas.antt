@@ -1,5 +1,6 @@
 -- The nodes along which a term is evaluated, and the table of its values, which has its value at each choice of inputs.
-use Rattle.std.proofs.Common.{◌≡◌, ℕ, ◌^◌, ◌<◌, Bool, true, false, ◌&&◌, List, [], ◌∷◌, map, length, refl, sym, ap, ◌∙◌, arith, All, sum_by}
+use Rattle.std.proofs.Common.{◌≡◌, ℕ, ◌^◌, ◌<◌, Bool, true, false, ◌&&◌, List, [], ◌∷◌, map, length, refl, sym, ap, ◌∙◌}
+use Rattle.std.proofs.Common.{arith, All, sum_by}
 use Rattle.std.proofs.Common.{zero, suc, Contains, get_or, subst}
 use Rattle.std.specs.Prelude.{Result, Ok, Err, IfOk}
 use Rattle.std.specs.List.{list_all, range_with_len}
@@ -17,7 +18,8 @@ use Rattle.bv_terms.specs.Subterm.{AreSubterms, IsTopological}
 use Rattle.bv_terms.specs.Eval.{IsValued}
 use Rattle.bv_terms.proofs.SubtermLemmas.{AreSubterms-fit}
 use Rattle.plain_search.specs.declared.cases.Case.{Case}
-use Rattle.plain_search.specs.Cases.{same_value, input_at, inputs_number, inputs_numbered, table_of, table_agrees, term_agrees}
+use Rattle.plain_search.specs.Cases.{same_value, input_at, inputs_number, inputs_numbered, table_of, table_agrees}
+use Rattle.plain_search.specs.Cases.{term_agrees}
 use Rattle.plain_search.specs.Results.{AreNodesOf}
 use Rattle.plain_search.proofs.ReadLemmas.{get_or-input_at}
 use Rattle.plain_search.proofs.InputLemmas.{inputs_number_lt, inputs_numbered-number}
@@ -29,7 +31,8 @@ all_one P x h zero d l = h
 all_one P x h (suc k) d l = absurd (omega (arith, l))
 
 -- what a call of `subterms` says, where the table is known
-pub nodes_found : {T E : Type 0} (table : Table) (at : TermId) (items : T → List TermId) (r : Result T E) → IsTable table
+pub nodes_found : {T E : Type 0} (table : Table) (at : TermId) (items : T → List TermId) (r : Result T E)
+    → IsTable table
     → at.0 < length table.nodes → IfOk r (λ n. AreSubterms table (at ∷ []) (items n))
     → IfOk r (λ n. IsTopological table (items n)) → IfOk r (λ n. All (Contains (items n)) (at ∷ []))
     → IfOk r (λ n. AreNodesOf table at (items n))
@@ -38,15 +41,18 @@ nodes_found table at items (Ok n) is there exact order results = record {
   itself = results 0 at (omega arith);
   order = order;
   fit = λ inputs fits.
-      AreSubterms-fit table is (at ∷ []) (items n) exact (all_one (λ (r : TermId). r.0 < length table.nodes) at there) inputs
+      AreSubterms-fit table is (at ∷ []) (items n) exact
+          (all_one (λ (r : TermId). r.0 < length table.nodes) at there) inputs
       (all_one (λ (r : TermId). InputsFit inputs (term_at table r)) at fits);
 }
 nodes_found table at items (Err e) is there exact order results = tt
 
-pub value_stands : (table : Table) (nodes : List TermId) (at : TermId) (inputs room : List Value) (d : Value) → Contains nodes at
+pub value_stands : (table : Table) (nodes : List TermId) (at : TermId) (inputs room : List Value) (d : Value)
+    → Contains nodes at
     → All (IsValued table inputs room) nodes → get_or room at.0 d ≡ value inputs (term_at table at)
 value_stands table nodes at inputs room d h all =
-    get_or_from_slice_get room at.0 (value inputs (term_at table at)) d (subst (IsValued table inputs room) h.2 (all h.0 at h.1))
+    get_or_from_slice_get room at.0 (value inputs (term_at table at)) d
+        (subst (IsValued table inputs room) h.2 (all h.0 at h.1))
 
 -- ---- tables
 
@@ -68,7 +74,9 @@ table_agrees-term : (ss : List Sort) (t : Term) (ks : List ℕ) (cases : List Ca
 table_agrees-term ss t ks [] h = refl
 table_agrees-term ss t ks (c ∷ cs) h =
     let Fits : Case → Type 0 = λ c. HaveSorts ss (map (input_at c.inputs.values) ks) in
-    let first = ap (λ v. same_value v c.result) (value-table_of ss t (map (input_at c.inputs.values) ks) (All-head Fits c cs h)) in
+    let first =
+        ap (λ v. same_value v c.result)
+        (value-table_of ss t (map (input_at c.inputs.values) ks) (All-head Fits c cs h)) in
     let rest = table_agrees-term ss t ks cs (All-tail Fits c cs h) in
     λ i. first i && rest i
 
@@ -80,7 +88,8 @@ table_agrees-is ss t ks cases table agrees is h e =
     e ∙ ap (λ xs. table_agrees cases xs ss ks) is ∙ table_agrees-term ss t ks cases h
 
 -- a test of what was read from a table
-pub table_read : (table : List Value) (number n size : ℕ) (r : Value) (same b : Bool) → number ≡ n → number < size → length table ≡ size
+pub table_read : (table : List Value) (number n size : ℕ) (r : Value) (same b : Bool) → number ≡ n → number < size
+    → length table ≡ size
     → same ≡ same_value (get_or table number (val.Bool false)) r → same ≡ b → same_value (input_at table n) r ≡ b
 table_read table number n size r same b is below whole test answer =
     let within : number < length table = subst (λ m. number < m) (sym whole) below in

@@ -1,5 +1,6 @@
 -- The patterns that are tried, in their order, and those of them that give what is wanted.
-use Rattle.std.specs.Prelude.{◌≡◌, ℕ, All, ◌+◌, ◌≤◌, List, [], ◌∷◌, ◌++◌, length, map, filter, Contains, Some, true, false, if◌then◌else◌}
+use Rattle.std.specs.Prelude.{◌≡◌, ℕ, All, ◌+◌, ◌≤◌, List, [], ◌∷◌, ◌++◌, length, map, filter, Contains, Some, true}
+use Rattle.std.specs.Prelude.{false, if◌then◌else◌}
 use Rattle.std.specs.List.{flat_map}
 use Rattle.std.specs.Option.{option_map_or}
 use Rattle.bv_terms.specs.declared.value.Sort.{Sort}
@@ -53,7 +54,8 @@ input_rules w = map input_pattern (filter (input_agrees w.cases.items) (places w
 abbrev pub operation_rules : Wanted → ℕ → Operation → List Pattern
 operation_rules w op o =
     if option_map_or (same_sort w.sort) (sort_of (result_in o.results)) false
-    then map (operation_pattern op) (filter (term_agrees w.cases.items (result_in o.results)) (tuples w.sorts.items o.args))
+    then map (operation_pattern op)
+        (filter (term_agrees w.cases.items (result_in o.results)) (tuples w.sorts.items o.args))
     else []
 
 -- the patterns of one node that give what is wanted, where these are the operations from that place on

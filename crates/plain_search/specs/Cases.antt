@@ -34,7 +34,8 @@ inputs_number _ _ = 0
 
 -- the inputs under a number, and a term's value there
 abbrev pub case_numbered : List Sort → Term → ℕ → Case
-case_numbered ss t n = record { inputs = record { values = inputs_numbered ss n }; result = value (inputs_numbered ss n) t }
+case_numbered ss t n =
+    record { inputs = record { values = inputs_numbered ss n }; result = value (inputs_numbered ss n) t }
 
 -- all inputs of these sorts, and a term's value at each
 abbrev pub cases_of : List Sort → Term → List Case
@@ -56,7 +57,8 @@ input_agrees cases k = list_all (λ (c : Case). same_value (input_at c.inputs.va
 
 -- whether the term's value over the inputs in those places is the goal's result in each case
 abbrev pub term_agrees : List Case → Term → List ℕ → Bool
-term_agrees cases t ks = list_all (λ (c : Case). same_value (value (map (input_at c.inputs.values) ks) t) c.result) cases
+term_agrees cases t ks =
+    list_all (λ (c : Case). same_value (value (map (input_at c.inputs.values) ks) t) c.result) cases
 
 -- a term's values at all inputs of these sorts, by the inputs' numbers
 abbrev pub table_of : List Sort → Term → List Value
@@ -65,4 +67,5 @@ table_of ss t = map (λ n. value (inputs_numbered ss n) t) (range_with_len 0 (2 
 -- whether what the table has for the inputs in those places is the goal's result in each case
 abbrev pub table_agrees : List Case → List Value → List Sort → List ℕ → Bool
 table_agrees cases table ss ks =
-    list_all (λ (c : Case). same_value (input_at table (inputs_number ss (map (input_at c.inputs.values) ks))) c.result) cases
+    list_all (λ (c : Case). same_value (input_at table (inputs_number ss (map (input_at c.inputs.values) ks))) c.result)
+        cases

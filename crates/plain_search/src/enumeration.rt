@@ -1,8 +1,6 @@
-//! The enumeration: the library of a goal for a bound of at most one node, by trying each pattern on
-//! each input.
-//!
-//! The goal's result at all inputs is computed once, and so is each operation's at all its arguments,
-//! where these have few bits. The patterns come in their order, and one is dropped at the first input
+//! The enumeration of all patterns of at most one node, in their order, so the list of those that are
+//! rules rises as it is made. The goal's result at all inputs is computed once, and so is each
+//! operation's at all its arguments, where these have few bits. A pattern is dropped at the first input
 //! at which its result is another one.
 
 ghost use Rattle.std.specs.Prelude.{◌≡◌, ◌<◌, ◌≤◌, [], ◌∷◌, ◌++◌, length, map, filter, slice_get, Contains};
@@ -15,7 +13,8 @@ ghost use Rattle.plain_search.specs.Enumeration.{IsSearchable, IsPlain};
 ghost use Rattle.plain_search.specs.Cases.{term_agrees};
 ghost use Rattle.plain_search.specs.Results.{IsFound};
 ghost use Rattle.plain_search.specs.Candidates.{IsWanted, IsTried, tuples};
-ghost use Rattle.plain_search.specs.Candidates.{input_pattern, operation_pattern, input_rules, operation_rules, rules_from};
+ghost use Rattle.plain_search.specs.Candidates.{input_pattern, operation_pattern, input_rules, operation_rules};
+ghost use Rattle.plain_search.specs.Candidates.{rules_from};
 
 use crate::cases::{Case, all_cases, does_input_agree};
 use crate::results::{Found, does_operation_agree, found_for};
@@ -155,7 +154,8 @@ fn add_agreeing(
     requires choices { choices.now ≡ tuples wanted.now.sorts.items args.now }
     requires room { length terms.now.nodes ≤ length room.old }
     ensures { OnOk result (rules.new.items ≡ rules.old.items
-        ++ map (operation_pattern op) (filter (term_agrees wanted.now.cases.items (term_at terms.now at)) choices.now)) }
+        ++ map (operation_pattern op) (filter (term_agrees wanted.now.cases.items (term_at terms.now at)) choices.now))
+            }
 {
     for choice in choices {
         let places = choice.as_slice();

@@ -122,7 +122,8 @@ fn does_term_agree(
 ) -> Result<bool, AllocError>
     requires nodes { AreNodesOf terms.now at nodes.now }
     requires within { All (λ (c : Case). All (λ k. k < length c.inputs.values) places.now) cases.now }
-    requires inputs { All (λ (c : Case). InputsFit (map (input_at c.inputs.values) places.now) (term_at terms.now at)) cases.now }
+    requires inputs { All (λ (c : Case). InputsFit (map (input_at c.inputs.values) places.now) (term_at terms.now at))
+        cases.now }
     requires room { length terms.now.nodes ≤ length room.old }
     ensures { IfOk result (λ agrees. agrees ≡ term_agrees cases.now (term_at terms.now at) places.now) }
 {
@@ -150,7 +151,8 @@ pub fn does_operation_agree(
     requires found { IsFound terms.now sorts.now at found.now }
     requires within { All (λ (c : Case). All (λ k. k < length c.inputs.values) places.now) cases.now }
     requires sorted { All (λ (c : Case). HaveSorts sorts.now (map (input_at c.inputs.values) places.now)) cases.now }
-    requires inputs { All (λ (c : Case). InputsFit (map (input_at c.inputs.values) places.now) (term_at terms.now at)) cases.now }
+    requires inputs { All (λ (c : Case). InputsFit (map (input_at c.inputs.values) places.now) (term_at terms.now at))
+        cases.now }
     requires room { length terms.now.nodes ≤ length room.old }
     ensures { IfOk result (λ agrees. agrees ≡ term_agrees cases.now (term_at terms.now at) places.now) }
 {

@@ -7,4 +7,5 @@ use Rattle.plain_search.proofs.enumeration.add_agreeing.Given as goal
 abbrev pub invariant-loop-choice : goal.invariant-loop-choice
 invariant-loop-choice l =
     l.rules.items ≡ l.fn.rules.items
-    ++ map (operation_pattern l.op) (filter (term_agrees l.wanted.cases.items (term_at l.terms l.at)) (take l.choice-index l.choices))
+    ++ map (operation_pattern l.op)
+        (filter (term_agrees l.wanted.cases.items (term_at l.terms l.at)) (take l.choice-index l.choices))

@@ -6,4 +6,5 @@ use Rattle.plain_search.specs.Cases.{inputs_numbered}
 use Rattle.plain_search.proofs.results.table_of.Given as goal
 
 abbrev pub invariant-loop-number : goal.invariant-loop-number
-invariant-loop-number l = l.table ≡ map (λ n. value (inputs_numbered l.sorts n) (term_at l.terms l.at)) (range_with_len 0 l.number)
+invariant-loop-number l =
+    l.table ≡ map (λ n. value (inputs_numbered l.sorts n) (term_at l.terms l.at)) (range_with_len 0 l.number)

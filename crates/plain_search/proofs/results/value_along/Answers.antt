@@ -8,4 +8,6 @@ pub eval_nodes-requires-clause-inputs : goal.eval_nodes-requires-clause-inputs
 eval_nodes-requires-clause-inputs c = c.requires.nodes.fit c.args.env.now.values c.requires.inputs
 
 pub returns : goal.returns
-returns c = value_stands c.args.terms.now c.args.nodes.now c.args.at c.args.env.now.values c.eval_nodes.new.room _ c.requires.nodes.itself c.eval_nodes.ensures.values
+returns c =
+    value_stands c.args.terms.now c.args.nodes.now c.args.at c.args.env.now.values c.eval_nodes.new.room _
+    c.requires.nodes.itself c.eval_nodes.ensures.values
