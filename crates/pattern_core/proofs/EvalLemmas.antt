@@ -48,12 +48,12 @@ pub attributes-more : (ws ns : List ℕ) (i d e : ℕ) (start so new : List Valu
 attributes-more ws ns i d e start so new l k h is =
     let n : suc i ≡ i + 1 = omega arith in
     let step : attr_values (drop i ws) (drop i ns) ≡ val.Bits (get_or ws i d) (get_or ns i e) ∷ attr_values
-        (drop (i + 1) ws) (drop (i + 1) ns) =
+    (drop (i + 1) ws) (drop (i + 1) ns) =
     subst (λ m. attr_values (drop i ws) (drop i ns) ≡ val.Bits (get_or ws i d) (get_or ns i e) ∷ attr_values (drop m ws)
-        (drop m ns)) n (attr_values-suc ws ns i d e l k) in
+    (drop m ns)) n (attr_values-suc ws ns i d e l k) in
     ap (λ xs. xs ++ attr_values (drop (i + 1) ws) (drop (i + 1) ns)) is
-        ∙ append_assoc so (val.Bits (get_or ws i d) (get_or ns i e) ∷ [])
-        (attr_values (drop (i + 1) ws) (drop (i + 1) ns)) ∙ ap (λ xs. so ++ xs) (sym step) ∙ h
+    ∙ append_assoc so (val.Bits (get_or ws i d) (get_or ns i e) ∷ [])
+    (attr_values (drop (i + 1) ws) (drop (i + 1) ns)) ∙ ap (λ xs. so ++ xs) (sym step) ∙ h
 
 attr_values-end : (ws ns : List ℕ) (i : ℕ) → i ≡ min (length ws) (length ns) → attr_values (drop i ws) (drop i ns) ≡ []
 attr_values-end [] [] zero e = refl
@@ -92,7 +92,7 @@ SourcesFit f g nodes k inputs outs =
 sources-sorted : (f : File) (g : Goal) (nodes : List Node) (k : ℕ) (inputs : List Value) (outs : List (List Value))
     → SourcesFit f g nodes k inputs outs → (xs : List Src) (ss : List Sort)
     → map (source_sort f g nodes k) xs ≡ map (λ (s : Sort). Some s) ss
-        → HaveSorts ss (map (source_value inputs outs) xs)
+    → HaveSorts ss (map (source_value inputs outs) xs)
 sources-sorted f g nodes k inputs outs h [] [] e = tt
 sources-sorted f g nodes k inputs outs h [] (s ∷ ss) e = absurd (cc)
 sources-sorted f g nodes k inputs outs h (x ∷ xs) [] e = absurd (cc)
@@ -106,17 +106,17 @@ node-sorted : (f : File) (g : Goal) (nodes : List Node) (k : ℕ) (inputs : List
     (n : Node) (o : Operation) → SourcesFit f g nodes k inputs outs → IsFitting f g nodes k n
     → slice_get f.ops n.op ≡ Some o
     → HaveSorts (o.args ++ map (λ w. sort.Bits w) o.attrs)
-        (map (source_value inputs outs) n.args ++ attr_values o.attrs n.attrs)
+    (map (source_value inputs outs) n.args ++ attr_values o.attrs n.attrs)
 node-sorted f g nodes k inputs outs n o h fit there =
     let same : fit.operation ≡ o = same_Some fit.operation o (sym fit.in_file ∙ there) in
     let Sorted : Operation → Type 0 =
-        λ x. HaveSorts (x.args ++ map (λ w. sort.Bits w) x.attrs)
-        (map (source_value inputs outs) n.args ++ attr_values x.attrs n.attrs) in
+    λ x. HaveSorts (x.args ++ map (λ w. sort.Bits w) x.attrs)
+    (map (source_value inputs outs) n.args ++ attr_values x.attrs n.attrs) in
     subst Sorted same
     (HaveSorts-append fit.operation.args (map (λ w. sort.Bits w) fit.operation.attrs)
-        (map (source_value inputs outs) n.args) (attr_values fit.operation.attrs n.attrs)
+    (map (source_value inputs outs) n.args) (attr_values fit.operation.attrs n.attrs)
     (sources-sorted f g nodes k inputs outs h n.args fit.operation.args fit.args)
-        (attributes-sorted fit.operation.attrs n.attrs fit.attrs))
+    (attributes-sorted fit.operation.attrs n.attrs fit.attrs))
 
 pub mapped_at : {A B : Type 0} (F : A → B) (xs : List A) (r : ℕ) (u : B) → slice_get (map F xs) r ≡ Some u
     → (x : A) × (slice_get xs r ≡ Some x) × (F x ≡ u)
@@ -164,8 +164,8 @@ no_source f g nodes inputs h (Input k) t e =
 no_source f g nodes inputs h (Out node r) t e =
     let none : nat_lt node 0 ≡ false = grind (arith, nat_tests) in
     let no : None ≡ Some t =
-        ap (λ b. cond b (operation_sort (option_and_then (λ (n : Node). slice_get f.ops n.op) (slice_get nodes node)) r)
-        None) (sym none) ∙ e in
+    ap (λ b. cond b (operation_sort (option_and_then (λ (n : Node). slice_get f.ops n.op) (slice_get nodes node)) r)
+    None) (sym none) ∙ e in
     absurd (cc)
 
 pub IsGiven-start : (s : Spec) (g_at : ℕ) (nodes : List Node) (inputs : List Value) (outs : List (List Value))
@@ -184,31 +184,31 @@ out_sort f nodes node r = operation_sort (option_and_then (λ (n : Node). slice_
 one_more : (f : File) (g : Goal) (nodes : List Node) (k : ℕ) (inputs : List Value) (outs : List (List Value))
     (new : List Value) (n : Node) → length outs ≡ k → slice_get nodes k ≡ Some n → SourcesFit f g nodes k inputs outs
     → ((r : ℕ) (t : Sort) → operation_sort (slice_get f.ops n.op) r ≡ Some t
-        → HasSort t (unwrap_or (slice_get new r) (val.Bool false)))
-        → SourcesFit f g nodes (k + 1) inputs (outs ++ new ∷ [])
+    → HasSort t (unwrap_or (slice_get new r) (val.Bool false)))
+    → SourcesFit f g nodes (k + 1) inputs (outs ++ new ∷ [])
 one_more f g nodes k inputs outs new n long here old fresh (Input i) t e = old (Input i) t e
 one_more f g nodes k inputs outs new n long here old fresh (Out node r) t e =
     elim (cases_order node k) [
       | inl same ↦ (let yes : nat_lt node (k + 1) ≡ true = grind (arith, nat_tests) in
           let sorted : out_sort f nodes node r ≡ Some t =
-              ap (λ b. cond b (out_sort f nodes node r) None) (sym yes) ∙ e in
+          ap (λ b. cond b (out_sort f nodes node r) None) (sym yes) ∙ e in
           let at : slice_get nodes node ≡ Some n = ap (slice_get nodes) same ∙ here in
           let there : operation_sort (slice_get f.ops n.op) r ≡ Some t =
-              ap (λ (o : Option Node). operation_sort (option_and_then (λ (n : Node). slice_get f.ops n.op) o) r)
-              (sym at) ∙ sorted in
+          ap (λ (o : Option Node). operation_sort (option_and_then (λ (n : Node). slice_get f.ops n.op) o) r)
+          (sym at) ∙ sorted in
           let last : slice_get (outs ++ new ∷ []) node ≡ Some new = slice_get-at_end outs new [] node (omega arith) in
           subst (λ (o : Option (List Value)). HasSort t (unwrap_or (slice_get (unwrap_or o []) r) (val.Bool false)))
-              (sym last) (fresh r t there))
+          (sym last) (fresh r t there))
       | inr other ↦ elim other [
         | inl less ↦ (let yes : nat_lt node (k + 1) ≡ true = grind (arith, nat_tests) in
             let yet : nat_lt node k ≡ true = grind (arith, nat_tests) in
             let sorted : out_sort f nodes node r ≡ Some t =
-                ap (λ b. cond b (out_sort f nodes node r) None) (sym yes) ∙ e in
+            ap (λ b. cond b (out_sort f nodes node r) None) (sym yes) ∙ e in
             let before = old (Out node r) t (ap (λ b. cond b (out_sort f nodes node r) None) yet ∙ sorted) in
             let stays : slice_get (outs ++ new ∷ []) node ≡ slice_get outs node =
-                slice_get-append outs (new ∷ []) node (omega arith) in
+            slice_get-append outs (new ∷ []) node (omega arith) in
             subst (λ (o : Option (List Value)). HasSort t (unwrap_or (slice_get (unwrap_or o []) r) (val.Bool false)))
-                (sym stays) before)
+            (sym stays) before)
         | inr more ↦ (let not_yet : nat_lt node (k + 1) ≡ false = grind (arith, nat_tests) in
             let no : None ≡ Some t = ap (λ b. cond b (out_sort f nodes node r) None) (sym not_yet) ∙ e in
             absurd (cc))
@@ -222,7 +222,7 @@ pub IsNodeGiven-from : (s : Spec) (g_at : ℕ) (g : Goal) (nodes : List Node) (i
 IsNodeGiven-from s g_at g nodes inputs outs place n there h fits at =
     let fit = fits place n at in
     let l : n.op < length (map (operation s.terms) s.ops) =
-        slice_get_within (map (operation s.terms) s.ops) n.op fit.operation fit.in_file in
+    slice_get_within (map (operation s.terms) s.ops) n.op fit.operation fit.in_file in
     record {
       there = subst (λ m. n.op < m) (length-map s.ops (operation s.terms)) l;
       sorted =
@@ -234,7 +234,7 @@ IsNodeGiven-from s g_at g nodes inputs outs place n there h fits at =
 results-are : (s : Spec) (n : Node) (name : List ℕ) (d : OpDef) (args : List Value)
     → slice_get s.ops n.op ≡ Some (name, d)
     → op_results (slice_get (file s).ops n.op) n.attrs args ≡ map (value (args ++ attr_values d.attrs n.attrs))
-        (operation s.terms (name, d)).results
+    (operation s.terms (name, d)).results
 results-are s n name d args e = ap (λ o. op_results o n.attrs args) (operation_is s n.op name d e)
 
 values-map : (ts : List Term) (vs : List Value) (ats : List TermId)
@@ -247,7 +247,7 @@ pub node_values : (s : Spec) (n : Node) (name : List ℕ) (d : OpDef) (k : ℕ) 
     (results : List TermId) → k ≡ n.op → slice_get s.ops k ≡ Some (name, d) → results ≡ d.results
     → values ≡ args ++ attr_values d.attrs n.attrs
     → map (λ (at : TermId). value values (term_at s.terms at)) results ≡ op_results
-        (slice_get (file s).ops n.op) n.attrs args
+    (slice_get (file s).ops n.op) n.attrs args
 node_values s n name d k args values results same e as' v =
     (λ i. map (λ (at : TermId). value (v i) (term_at s.terms at)) (as' i))
     ∙ sym (values-map (terms_of s.terms) (args ++ attr_values d.attrs n.attrs) d.results)
@@ -272,8 +272,8 @@ some_goal s k l = some_at (file s).goals k (subst (λ m. k < m) (sym (length-map
 pub IsGiven-more : (s : Spec) (g_at : ℕ) (nodes : List Node) (inputs : List Value) (outs : List (List Value))
     (place : ℕ) (n : Node) (new : List Value) (more : List (List Value)) → IsGiven s g_at nodes inputs outs place
     → slice_get nodes place ≡ Some n → place < length nodes → n ≡ get_or nodes place n → IsNodeGiven s n inputs outs
-        → new ≡ op_results (slice_get (file s).ops n.op) n.attrs (map (source_value inputs outs) n.args)
-        → more ≡ outs ++ new ∷ [] → IsGiven s g_at nodes inputs more (place + 1)
+    → new ≡ op_results (slice_get (file s).ops n.op) n.attrs (map (source_value inputs outs) n.args)
+    → more ≡ outs ++ new ∷ [] → IsGiven s g_at nodes inputs more (place + 1)
 IsGiven-more s g_at nodes inputs outs place n new more h at l item given is grown =
     let f = file s in
     let args : List Value = map (source_value inputs outs) n.args in
@@ -287,15 +287,15 @@ IsGiven-more s g_at nodes inputs outs place n new more h at l item given is grow
     let there : slice_get (file s).ops n.op ≡ Some o = operation_is s n.op name d e in
     let new_is : new ≡ map (value vs) o.results = is ∙ results-are s n name d args e in
     let fresh : (r : ℕ) (t : Sort) → operation_sort (slice_get (file s).ops n.op) r ≡ Some t
-        → HasSort t (unwrap_or (slice_get new r) (val.Bool false)) =
+    → HasSort t (unwrap_or (slice_get new r) (val.Bool false)) =
     λ r t sorted. subst (λ (xs : List Value). HasSort t (unwrap_or (slice_get xs r) (val.Bool false))) (sym new_is)
-        (result-sorted o vs r t (λ u q. result_fits s name d vs r u can q)
-        (ap (λ x. operation_sort x r) (sym there) ∙ sorted)) in
+    (result-sorted o vs r t (λ u q. result_fits s name d vs r u can q)
+    (ap (λ x. operation_sort x r) (sym there) ∙ sorted)) in
     let front : drop place nodes ≡ n ∷ drop (place + 1) nodes =
-        drop_more nodes place n l ∙ ap (λ x. x ∷ drop (place + 1) nodes) (sym item) in
+    drop_more nodes place n l ∙ ap (λ x. x ∷ drop (place + 1) nodes) (sym item) in
     let step : outs_from (file s) inputs outs (drop place nodes) ≡ outs_from (file s) inputs
-        (outs ++ op_results (slice_get (file s).ops n.op) n.attrs args ∷ []) (drop (place + 1) nodes) =
-        ap (outs_from (file s) inputs outs) front in
+    (outs ++ op_results (slice_get (file s).ops n.op) n.attrs args ∷ []) (drop (place + 1) nodes) =
+    ap (outs_from (file s) inputs outs) front in
     record {
       so_far =
           ap (λ os. outs_from (file s) inputs os (drop (place + 1) nodes)) (grown ∙ ap (λ x. outs ++ x ∷ []) is)
@@ -318,7 +318,7 @@ IsGiven-end s g_at nodes inputs outs place h l =
 pub values-stand : (table : Table) (inputs room : List Value) (nodes results : List TermId)
     → All (IsValued table inputs room) nodes
     → All (Contains nodes) results
-        → values_in room results ≡ map (λ (at : TermId). value inputs (term_at table at)) results
+    → values_in room results ≡ map (λ (at : TermId). value inputs (term_at table at)) results
 values-stand table inputs room nodes [] all within = refl
 values-stand table inputs room nodes (at ∷ results) all within =
     let there = All-head (Contains nodes) at results within in

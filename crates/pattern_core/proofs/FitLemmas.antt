@@ -104,15 +104,15 @@ Pairwise-more R xs ys i d e l k r h = let n : suc i ≡ i + 1 =
 pub operation_sort-is : (s : Spec) (op place k j : ℕ) (name : List ℕ) (d : OpDef) (results : List TermId) (r : TermId)
     (x : Sort) → k ≡ op → j ≡ place → slice_get s.ops k ≡ Some (name, d) → results ≡ d.results → j < length results
     → sort_of (term_at s.terms (get_or results j r)) ≡ Some x
-        → Some x ≡ operation_sort (slice_get (file s).ops op) place
+    → Some x ≡ operation_sort (slice_get (file s).ops op) place
 operation_sort-is s op place k j name d results r x p q e as' l sorted =
     let term : TermId → Term = λ at. term_in (terms_of s.terms) at.0 in
     let there : slice_get d.results place ≡ Some (get_or results j r) =
-        (λ i. slice_get (sym as' i) (sym q i)) ∙ slice_get-get_or results j r l in
+    (λ i. slice_get (sym as' i) (sym q i)) ∙ slice_get-get_or results j r l in
     let found : slice_get (map term d.results) place ≡ Some (term_at s.terms (get_or results j r)) =
-        slice_get-map term d.results place ∙ ap (option_map term) there in
+    slice_get-map term d.results place ∙ ap (option_map term) there in
     let whole : slice_get (file s).ops op ≡ Some (operation s.terms (name, d)) =
-        ap (slice_get (file s).ops) (sym p) ∙ operation_is s k name d e in
+    ap (slice_get (file s).ops) (sym p) ∙ operation_is s k name d e in
     sym (ap (λ o. operation_sort o place) whole ∙ ap (option_and_then sort_of) found ∙ sorted)
 
 sorts-map : (ts : List Term) (ats : List TermId)
@@ -125,20 +125,20 @@ pub goal_sorts : (s : Spec) (k : ℕ) (name : List ℕ) (d : GoalDef) (g : Goal)
     → map sort_of g.results ≡ map (λ (at : TermId). sort_of (term_at s.terms at)) results
 goal_sorts s k name d g results e h as' =
     ap (λ (x : Goal). map sort_of x.results) (goal_is s k name d g e h) ∙ sorts-map (terms_of s.terms) d.results
-        ∙ ap (map (λ (at : TermId). sort_of (term_at s.terms at))) (sym as')
+    ∙ ap (map (λ (at : TermId). sort_of (term_at s.terms at))) (sym as')
 
 -- ---- a node that fits
 
 pub fitting-answer : (s : Spec) (g : Goal) (nodes : List Node) (place k : ℕ) (n : Node) (name : List ℕ) (d : OpDef)
     (widths numbers : List ℕ) (args : List Src) (sorts : List Sort) (b : Bool)
     → k ≡ n.op → slice_get s.ops k ≡ Some (name, d) → widths ≡ d.attrs → numbers ≡ n.attrs → args ≡ n.args
-        → sorts ≡ d.args → Pairwise (λ w a. a < 2 ^ w) widths numbers
+    → sorts ≡ d.args → Pairwise (λ w a. a < 2 ^ w) widths numbers
     → (b ≡ true) ↔ (map (source_sort (file s) g nodes place) args ≡ map (λ (x : Sort). Some x) sorts)
-        → (b ≡ true) ↔ IsFitting (file s) g nodes place n
+    → (b ≡ true) ↔ IsFitting (file s) g nodes place n
 fitting-answer s g nodes place k n name d widths numbers args sorts b op e w m a t within iff =
     let o : Operation = operation s.terms (name, d) in
     let there : slice_get (file s).ops n.op ≡ Some o =
-        ap (slice_get (file s).ops) (sym op) ∙ operation_is s k name d e in (
+    ap (slice_get (file s).ops) (sym op) ∙ operation_is s k name d e in (
       λ yes. record {
         operation = o;
         in_file = there;
@@ -149,8 +149,8 @@ fitting-answer s g nodes place k n name d widths numbers args sorts b op e w m a
       },
       λ fit. let same : fit.operation ≡ o = same_Some fit.operation o (sym fit.in_file ∙ there) in
           iff.1 (ap (map (source_sort (file s) g nodes place)) a ∙ fit.args
-              ∙ ap (λ (x : Operation). map (λ (y : Sort). Some y) x.args) same
-              ∙ ap (map (λ (x : Sort). Some x)) (sym t)),
+          ∙ ap (λ (x : Operation). map (λ (y : Sort). Some y) x.args) same
+          ∙ ap (map (λ (x : Sort). Some x)) (sym t)),
     )
 
 -- ---- what names a node
@@ -173,7 +173,7 @@ pub used-answer : (p : Pattern) (node : ℕ) (nodes : List Node) (xs : List Src)
     → (b ≡ true) ↔ IsAmong node xs → (b ≡ true) ↔ IsUsed p node
 used-answer p node nodes xs i b e f l all iff =
     let whole : All (λ (n : Node). IsAmong node n.args → ⊥) p.nodes =
-        subst (All (λ (n : Node). IsAmong node n.args → ⊥)) (take_all i nodes l ∙ e) all in (
+    subst (All (λ (n : Node). IsAmong node n.args → ⊥)) (take_all i nodes l ∙ e) all in (
       λ yes. let a = iff.0 yes in (a.0, inl (subst (λ ys. Contains ys (Out node a.0)) f a.1)),
       λ h. elim h.1 [
         | inl a ↦ iff.1 (h.0, subst (λ ys. Contains ys (Out node h.0)) (sym f) a)

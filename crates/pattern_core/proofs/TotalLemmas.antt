@@ -27,7 +27,7 @@ use Rattle.pattern_core.specs.declared.pattern.Src.{Src}
 use Rattle.pattern_core.specs.declared.pattern.Src.TheVariants.{Input, Out}
 use Rattle.pattern_core.specs.declared.pattern.Node.{Node}
 use Rattle.pattern_core.specs.declared.pattern.Pattern.{Pattern}
-use Rattle.pattern_core.specs.Pattern.{operation_sort, source_sort, AreFitting, IsFitting, IsWellFormed}
+use Rattle.pattern_core.specs.Pattern.{operation_sort, source_sort, IsWellFormed}
 use Rattle.pattern_core.specs.Order.{source_number, source_cmp, node_cmp, multiset, pattern_cmp, IsTotalOrderOf}
 use Rattle.bv_terms.proofs.TableLemmas.{length-terms_of}
 use Rattle.pattern_core.proofs.EvalLemmas.{mapped_at}
@@ -126,10 +126,10 @@ same_pattern p q a b e =
     let second = then_second by_size (ordering_then by_multiset (ordering_then by_nodes by_results)) e in
     let third = then_second by_multiset (ordering_then by_nodes by_results) second in
     let nodes =
-        same_lists HasSmall node_cmp same_node p.nodes q.nodes a.nodes b.nodes (then_first by_nodes by_results third) in
+    same_lists HasSmall node_cmp same_node p.nodes q.nodes a.nodes b.nodes (then_first by_nodes by_results third) in
     let results =
-        same_lists IsSmall source_cmp same_source p.results q.results a.results b.results
-        (then_second by_nodes by_results third) in
+    same_lists IsSmall source_cmp same_source p.results q.results a.results b.results
+    (then_second by_nodes by_results third) in
     λ i. record { nodes = nodes i; results = results i }
 
 -- ---- the sources of a well-formed pattern
@@ -167,7 +167,7 @@ small_source f g limits nodes k (Input i) t e =
 small_source f g limits nodes k (Out node result) t e =
     let op = option_and_then (λ (n : Node). slice_get f.ops n.op) (slice_get nodes node) in
     small_result op result t (λ p. few (slice_get nodes node) p)
-        (in_then (nat_lt node k) (operation_sort op result) t e)
+    (in_then (nat_lt node k) (operation_sort op result) t e)
   where
     few : (n : Option Node) (p : Operation) → option_and_then (λ (n : Node). slice_get f.ops n.op) n ≡ Some p
         → length p.results ≤ 3
@@ -203,9 +203,9 @@ small_pattern : (f : File) (g : Goal) → IsLimited f g → (p : Pattern) → Is
 unfolding HasSmall
 small_pattern f g limits p wf = record {
   nodes = each_from_places HasSmall p.nodes (λ k n e.
-    let fit = wf.nodes k n e in
-    small_sources f g limits p.nodes k n.args (map (λ s. Some s) fit.operation.args) fit.args
-        (all_some fit.operation.args));
+      let fit = wf.nodes k n e in
+      small_sources f g limits p.nodes k n.args (map (λ s. Some s) fit.operation.args) fit.args
+      (all_some fit.operation.args));
   results =
       small_sources f g limits p.nodes (length p.nodes) p.results (map sort_of g.results) wf.results
       (some_of g.results limits.sorted);
@@ -268,7 +268,7 @@ term_there ts k l =
 -- results that stand in a table have sorts
 sorted_results : (table : Table) → IsTable table → (ss : List Sort) (ats : List TermId)
     → are_sound table ss ats ≡ true
-        → Each (λ (t : Term). IsSome (sort_of t)) (map (λ (a : TermId). term_in (terms_of table) a.0) ats)
+    → Each (λ (t : Term). IsSome (sort_of t)) (map (λ (a : TermId). term_in (terms_of table) a.0) ats)
 sorted_results table is ss [] h = tt
 sorted_results table is ss (at ∷ ats) h =
     let there = nat_lt at.0 (length table.nodes) in
@@ -277,16 +277,17 @@ sorted_results table is ss (at ∷ ats) h =
     let within = ltb-true at.0 (length table.nodes) (and_parts there stays both.0).0 in
     let long = length-terms_of table in
     let first =
-        is.well_sorted at.0 (term_in (terms_of table) at.0)
-        (term_there (terms_of table) at.0 (omega (arith, within, long))) in
+    is.well_sorted at.0 (term_in (terms_of table) at.0)
+    (term_there (terms_of table) at.0 (omega (arith, within, long))) in
     (first, sorted_results table is ss ats both.1)
 
 limited_goal : (table : Table) → IsTable table → (e : List ℕ × GoalDef) → is_sound_goal table e ≡ true
     → (length (goal table e).args ≤ 4) × Each (λ (t : Term). IsSome (sort_of t)) (goal table e).results
 limited_goal table is e h =
-    let k = sound_goal table e h in
-    (subst (λ n. n ≤ 4) (sym (length-map e.1.args (λ a. a.1))) k.few,
-        sorted_results table is (map (λ a. a.1) e.1.args) e.1.results k.results)
+    let k = sound_goal table e h in (
+      subst (λ n. n ≤ 4) (sym (length-map e.1.args (λ a. a.1))) k.few,
+      sorted_results table is (map (λ a. a.1) e.1.args) e.1.results k.results,
+    )
 
 pub IsLimited-from_spec : (s : Spec) (k : ℕ) (g : Goal) → IsTable s.terms → slice_get (file s).goals k ≡ Some g
     → IsLimited (file s) g

@@ -43,7 +43,7 @@ front_of_below n xs ys e =
     let sizes = ap length e in
     let size = length-below n in
     sym (take-append_seam xs ys) ∙ ap (take (length xs)) e
-        ∙ take-below (length xs) n (omega (arith, length-append xs ys))
+    ∙ take-below (length xs) n (omega (arith, length-append xs ys))
 
 same_count : (m n : ℕ) → below m ≡ below n → m ≡ n
 same_count m n e = sym (length-below m) ∙ ap length e ∙ length-below n
@@ -118,7 +118,7 @@ unfolding walk
 walk-seen zero nodes count node r l h = absurd (omega (arith, l))
 walk-seen (suc deep) nodes count node r l h =
     ap (λ b. cond b (below count) (fold (walk deep nodes) (below count) (args_of (slice_get nodes node)) ++ node ∷ []))
-        (any_below count node h)
+    (any_below count node h)
 
 walk-new : (deep : ℕ) (nodes : List Node) (count node r : ℕ) → count ≤ node
     → walk (suc deep) nodes (below count) (Out node r) ≡ fold (walk deep nodes) (below count)
@@ -126,7 +126,7 @@ walk-new : (deep : ℕ) (nodes : List Node) (count node r : ℕ) → count ≤ n
 unfolding walk
 walk-new deep nodes count node r h =
     ap (λ b. cond b (below count) (fold (walk deep nodes) (below count) (args_of (slice_get nodes node)) ++ node ∷ []))
-        (none_below count node h)
+    (none_below count node h)
 
 pub IsBefore-more : (j k : ℕ) (s : Src) → j ≤ k → IsBefore j s → IsBefore k s
 IsBefore-more j k (Input i) h b = tt
@@ -147,30 +147,30 @@ HasWalked-start nodes bound count xs h = record { within = h; so_far = λ deep l
 pub HasWalked-more : (nodes : List Node) (bound count left more : ℕ) (xs : List Src) (i : ℕ) (d : Src)
     → HasWalked nodes bound count left xs (drop i xs) → i < length xs → All (IsBefore bound) xs
     → more ≤ length nodes → ((deep : ℕ) → IsBefore deep (get_or xs i d)
-        → walk deep nodes (below left) (get_or xs i d) ≡ below more)
-        → HasWalked nodes bound count more xs (drop (i + 1) xs)
+    → walk deep nodes (below left) (get_or xs i d) ≡ below more)
+    → HasWalked nodes bound count more xs (drop (i + 1) xs)
 HasWalked-more nodes bound count left more xs i d h l before within step = record {
   within = within;
   so_far = λ deep b.
       h.so_far deep b ∙ at_drop_more (fold (walk deep nodes) (below left)) xs i d l
       ∙ ap (λ start. fold (walk deep nodes) start (drop (i + 1) xs))
-          (step deep (IsBefore-more bound deep (get_or xs i d) b (All-get_or (IsBefore bound) xs i d l before)));
+      (step deep (IsBefore-more bound deep (get_or xs i d) b (All-get_or (IsBefore bound) xs i d l before)));
 }
 
 pub HasWalked-fails : (nodes : List Node) (bound count left : ℕ) (xs : List Src) (i : ℕ) (d : Src)
     → HasWalked nodes bound count left xs (drop i xs) → i < length xs → All (IsBefore bound) xs
     → ((deep : ℕ) → IsBefore deep (get_or xs i d) → IsCounted (walk deep nodes (below left) (get_or xs i d)) None)
-        → (deep : ℕ) → bound ≤ deep → IsCounted (fold (walk deep nodes) (below count) xs) None
+    → (deep : ℕ) → bound ≤ deep → IsCounted (fold (walk deep nodes) (below count) xs) None
 HasWalked-fails nodes bound count left xs i d h l before step deep b =
     let f = walk deep nodes in
     let start : List ℕ = walk deep nodes (below left) (get_or xs i d) in
     let out : IsCounted start None =
-        step deep (IsBefore-more bound deep (get_or xs i d) b (All-get_or (IsBefore bound) xs i d l before)) in
+    step deep (IsBefore-more bound deep (get_or xs i d) b (All-get_or (IsBefore bound) xs i d l before)) in
     let rest : IsCounted (fold (walk deep nodes) start (drop (i + 1) xs)) None =
-        stays_out start (fold (walk deep nodes) start (drop (i + 1) xs))
-        (fold-extends (walk deep nodes) (walk-extends deep nodes) (drop (i + 1) xs) start) out in
+    stays_out start (fold (walk deep nodes) start (drop (i + 1) xs))
+    (fold-extends (walk deep nodes) (walk-extends deep nodes) (drop (i + 1) xs) start) out in
     subst (λ w. IsCounted w None) (sym (h.so_far deep b ∙ at_drop_more (fold (walk deep nodes) (below left)) xs i d l))
-        rest
+    rest
 
 pub HasWalked-end : (nodes : List Node) (bound count left : ℕ) (xs : List Src) (i : ℕ)
     → HasWalked nodes bound count left xs (drop i xs) → length xs ≤ i → (deep : ℕ) → bound ≤ deep
@@ -220,13 +220,16 @@ counted-seen nodes count node n r source is same l deep b =
 walk-entered : (nodes : List Node) (count node : ℕ) (source : Src) (args : List Src)
     → IsEntered nodes count node source args → (deep : ℕ) → IsBefore deep source
     → (d : ℕ) × (node ≤ d) × (walk deep nodes (below count) source ≡ fold (walk d nodes) (below count) args
-        ++ node ∷ [])
+    ++ node ∷ [])
 walk-entered nodes count node source args e zero b = let no : node < 0 =
     subst (IsBefore zero) e.is b in absurd (omega (arith, no))
 walk-entered nodes count node source args e (suc d) b =
-    let before : node < suc d = subst (IsBefore (suc d)) e.is b in
-    (d, omega arith, ap (walk (suc d) nodes (below count)) e.is ∙ walk-new d nodes count node e.result e.fresh
-        ∙ ap (λ xs. fold (walk d nodes) (below count) xs ++ node ∷ []) e.args_are)
+    let before : node < suc d = subst (IsBefore (suc d)) e.is b in (
+      d,
+      omega arith,
+      ap (walk (suc d) nodes (below count)) e.is ∙ walk-new d nodes count node e.result e.fresh
+          ∙ ap (λ xs. fold (walk d nodes) (below count) xs ++ node ∷ []) e.args_are,
+    )
 
 pub counted-fails : (nodes : List Node) (count node : ℕ) (source : Src) (args : List Src)
     → IsEntered nodes count node source args
@@ -236,7 +239,7 @@ counted-fails nodes count node source args e out deep b =
     let w = walk-entered nodes count node source args e deep b in
     subst (λ x. IsCounted x None) (sym w.2)
     (stays_out (fold (walk w.0 nodes) (below count) args) (fold (walk w.0 nodes) (below count) args ++ node ∷ [])
-        (node ∷ [], refl) (out w.0 w.1))
+    (node ∷ [], refl) (out w.0 w.1))
 
 pub counted-out_of_turn : (nodes : List Node) (count node left : ℕ) (source : Src) (args : List Src)
     → IsEntered nodes count node source args

@@ -102,7 +102,7 @@ abbrev pub IsUsed : Pattern → ℕ → Type 0
 IsUsed p k =
     (result : ℕ)
     × (Contains p.results (Out k result)
-        ⊎ ((j : ℕ) × Contains (args_of (slice_get p.nodes j)) (Out k result)))
+    ⊎ ((j : ℕ) × Contains (args_of (slice_get p.nodes j)) (Out k result)))
 
 -- what is a pattern for a goal
 pub record IsWellFormed (f : File) (g : Goal) (p : Pattern) : Type 0 where

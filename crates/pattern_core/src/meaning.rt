@@ -16,8 +16,8 @@ ghost use Rattle.pattern_core.specs.Meaning.{IsNodeGiven};
 
 use crate::pattern::{Node, Pattern, Src};
 use bv_terms::{Env, TermId, Terms, Value};
-use isel_spec::{OpDef, Spec};
 use collections::Seq;
+use isel_spec::{OpDef, Spec};
 use std::alloc::{AllocError, Global};
 
 /// The value in a place; past the end, where no source of a well-formed pattern leads, some value.

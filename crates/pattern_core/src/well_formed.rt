@@ -85,7 +85,7 @@ fn have_sorts(
     requires within { count ≤ length nodes.now }
     ensures { (g : Goal) → slice_get (file spec.now).goals goal ≡ Some g →
         (IsTrue result
-            ↔ (map (source_sort (file spec.now) g nodes.now count) sources.now ≡ map (λ (s : Sort). Some s) sorts.now)) }
+        ↔ (map (source_sort (file spec.now) g nodes.now count) sources.now ≡ map (λ (s : Sort). Some s) sorts.now)) }
 {
     if sources.len() != sorts.len() {
         return false;
@@ -104,7 +104,7 @@ fn have_result_sorts(spec: &Spec, goal: u32, nodes: &[Node], sources: &[Src]) ->
     requires { goal < length spec.now.goals }
     ensures { (g : Goal) → slice_get (file spec.now).goals goal ≡ Some g →
         (IsTrue result
-            ↔ (map (source_sort (file spec.now) g nodes.now (length nodes.now)) sources.now ≡ map sort_of g.results)) }
+        ↔ (map (source_sort (file spec.now) g nodes.now (length nodes.now)) sources.now ≡ map sort_of g.results)) }
 {
     let results = spec.goal(goal).results.as_slice();
     if sources.len() != results.len() {

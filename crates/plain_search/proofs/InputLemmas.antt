@@ -53,7 +53,7 @@ inputs_number_lt (s ∷ ss) (v ∷ vs) h =
     let w : ℕ = 2 ^ width_of s in
     let rest = inputs_number ss vs in
     let size : 2 ^ sum_by width_of (s ∷ ss) ≡ w * 2 ^ sum_by width_of ss =
-        ap (λ k. 2 ^ k) (sum_by-cons width_of s ss) ∙ pow-add 2 (width_of s) (sum_by width_of ss) in
+    ap (λ k. 2 ^ k) (sum_by-cons width_of s ss) ∙ pow-add 2 (width_of s) (sum_by width_of ss) in
     subst (λ m. rest * w + number_of v < m) (sym size)
     (mul-add-lt rest w (number_of v) (2 ^ sum_by width_of ss) (inputs_number_lt ss vs h.1) (number_of_lt s v h.0))
 
@@ -69,9 +69,9 @@ inputs_numbered-number (s ∷ ss) (v ∷ vs) h =
     let rest : ℕ = inputs_number ss vs in
     let below : d < w = number_of_lt s v h.0 in
     let first : value_numbered s ((rest * w + d) % w) ≡ v =
-        ap (value_numbered s) (mod-mul-add rest w d below) ∙ value_numbered-number_of s v h.0 in
+    ap (value_numbered s) (mod-mul-add rest w d below) ∙ value_numbered-number_of s v h.0 in
     let others : inputs_numbered ss ((rest * w + d) / w) ≡ vs =
-        ap (inputs_numbered ss) (div-mul-add rest w d below) ∙ inputs_numbered-number ss vs h.1 in
+    ap (inputs_numbered ss) (div-mul-add rest w d below) ∙ inputs_numbered-number ss vs h.1 in
     λ i. first i ∷ others i
 
 -- one of the numbered inputs
@@ -116,7 +116,7 @@ pub number_from-end : (ss : List Sort) (vs : List Value) (ks : List ℕ) (k : �
     → 0 ≡ number_from k ss vs ks
 number_from-end ss vs ks k e =
     none (drop k ss) ∙ sym (ap (λ xs. inputs_number (drop k ss) (map (input_at vs) xs))
-        (drop_all k ks (omega (arith, e))))
+    (drop_all k ks (omega (arith, e))))
   where
     none : (us : List Sort) → 0 ≡ inputs_number us []
     none [] = refl
@@ -125,7 +125,7 @@ number_from-end ss vs ks k e =
 pub number_from-more : (ss : List Sort) (vs : List Value) (ks : List ℕ) (k : ℕ) (s : Sort) → k < length ss
     → k < length ks
     → number_from k ss vs ks ≡ number_from (k + 1) ss vs ks * 2 ^ width_of (get_or ss k s) + number_of
-        (input_at vs (get_or ks k 0))
+    (input_at vs (get_or ks k 0))
 number_from-more ss vs ks k s l m =
     (λ i. inputs_number (drop_more ss k s l i) (map (input_at vs) (drop_more ks k 0 m i)))
 
@@ -133,13 +133,13 @@ pub number_from-lt : (ss : List Sort) (vs : List Value) (ks : List ℕ) (k : ℕ
     → number_from k ss vs ks < 2 ^ 16
 number_from-lt ss vs ks k h =
     let sorted =
-        subst (HaveSorts (drop k ss)) (drop-map (input_at vs) ks k)
-        (HaveSorts-drop ss (map (input_at vs) ks) k h.sorted) in
+    subst (HaveSorts (drop k ss)) (drop-map (input_at vs) ks k)
+    (HaveSorts-drop ss (map (input_at vs) ks) k h.sorted) in
     let below = inputs_number_lt (drop k ss) (map (input_at vs) (drop k ks)) sorted in
     let parts = sum_by-take-drop width_of ss k in
     let few = h.few in
     let fits : 2 ^ sum_by width_of (drop k ss) ≤ 2 ^ 16 =
-        pow_mono {i = sum_by width_of (drop k ss)} {j = 16} (omega (arith, parts, few)) in
+    pow_mono {i = sum_by width_of (drop k ss)} {j = 16} (omega (arith, parts, few)) in
     omega (arith, below, fits)
 
 -- a sort that stands there is of few bits
@@ -175,7 +175,7 @@ number_step ss vs ks k number from digit width s d h inside e =
     let l : j < length ks = omega (arith, some, within) in
     let m : j < length ss = omega (arith, some, within, long) in
     let value : get_or vs from d ≡ input_at vs (get_or ks j 0) =
-        ap (λ i. get_or vs i d) e.place ∙ get_or-input_at vs (get_or ks j 0) d (inside j 0 l) in
+    ap (λ i. get_or vs i d) e.place ∙ get_or-input_at vs (get_or ks j 0) d (inside j 0 l) in
     let high : number ≡ number_from (j + 1) ss vs ks = e.so_far ∙ ap (λ i. number_from i ss vs ks) (sym next) in
     (λ i. high i * 2 ^ e.wide i + (e.read ∙ ap number_of value) i) ∙ sym (number_from-more ss vs ks j s m l)
 
@@ -185,7 +185,7 @@ pub number_step-fits : (ss : List Sort) (vs : List Value) (ks : List ℕ) (k num
     → number * 2 ^ width + digit < 2 ^ 16
 number_step-fits ss vs ks k number from digit width s d h inside e =
     subst (λ n. n < 2 ^ 16) (sym (number_step ss vs ks k number from digit width s d h inside e))
-        (number_from-lt ss vs ks (k - 1) h)
+    (number_from-lt ss vs ks (k - 1) h)
 
 pub number_whole : (ss : List Sort) (vs : List Value) (ks : List ℕ) (k number : ℕ) → k ≤ 0
     → number ≡ number_from k ss vs ks

@@ -61,7 +61,7 @@ input_decides : (f : File) (g : Goal) (w : Wanted) (k : IsTask f g w) (place : �
 input_decides f g w k place =
     subst (λ cs. (input_agrees cs place ≡ true) ↔ IsRule f g (input_pattern place)) (sym (cases_are f g w k))
     (decides_rule f g k.term (input_pattern place) (λ vs. input_at vs place) k.no_memory k.results
-        (GivesValue-input f place))
+    (GivesValue-input f place))
 
 rule_from_input : (f : File) (g : Goal) (w : Wanted) (k : IsTask f g w) (p : Pattern) → In (input_rules w) p
     → IsRuleOfSize f g 0 p
@@ -70,11 +70,14 @@ rule_from_input f g w k p h =
     let kept = In_of_filter (input_agrees w.cases.items) (places w.sorts.items w.sort) r.0 r.1 in
     let at = slice_get-places_from 0 w.sort w.sorts.items r.0 kept.0 in
     let there : slice_get g.args r.0 ≡ Some w.sort =
-        subst (λ n. slice_get g.args n ≡ Some w.sort) (omega (arith, at.1))
-        (subst (λ ss. slice_get ss at.0 ≡ Some w.sort) k.wanted.sorts at.2) in
-    subst (IsRuleOfSize f g 0) r.2
-    (IsWellFormed-input f g k.term w.sort r.0 k.results (sorted f g w k) there, IsCanonical-input r.0, refl,
-        (input_decides f g w k r.0).0 kept.1)
+    subst (λ n. slice_get g.args n ≡ Some w.sort) (omega (arith, at.1))
+    (subst (λ ss. slice_get ss at.0 ≡ Some w.sort) k.wanted.sorts at.2) in
+    subst (IsRuleOfSize f g 0) r.2 (
+      IsWellFormed-input f g k.term w.sort r.0 k.results (sorted f g w k) there,
+      IsCanonical-input r.0,
+      refl,
+      (input_decides f g w k r.0).0 kept.1,
+    )
 
 nodes_nil : (ns : List Node) → length ns ≡ 0 → ns ≡ []
 nodes_nil [] h = refl
@@ -85,13 +88,13 @@ input_from_rule : (f : File) (g : Goal) (w : Wanted) (k : IsTask f g w) (p : Pat
 input_from_rule f g w k p wf none rule =
     let r = IsInputOf-from_well_formed f g k.term w.sort p k.results (sorted f g w k) wf (nodes_nil p.nodes none) in
     let there : slice_get w.sorts.items r.0 ≡ Some w.sort =
-        subst (λ ss. slice_get ss r.0 ≡ Some w.sort) (sym k.wanted.sorts) r.1 in
+    subst (λ ss. slice_get ss r.0 ≡ Some w.sort) (sym k.wanted.sorts) r.1 in
     let place : In (places w.sorts.items w.sort) r.0 =
-        subst (In (places w.sorts.items w.sort)) (omega arith) (In-places_from 0 w.sort w.sorts.items r.0 there) in
+    subst (In (places w.sorts.items w.sort)) (omega arith) (In-places_from 0 w.sort w.sorts.items r.0 there) in
     let agrees = (input_decides f g w k r.0).1 (subst (IsRule f g) (sym r.2) rule) in
     subst (In (input_rules w)) r.2
     (In-map input_pattern (filter (input_agrees w.cases.items) (places w.sorts.items w.sort)) r.0
-        (In-filter (input_agrees w.cases.items) (places w.sorts.items w.sort) r.0 place agrees))
+    (In-filter (input_agrees w.cases.items) (places w.sorts.items w.sort) r.0 place agrees))
 
 -- ---- one node
 
@@ -138,31 +141,36 @@ in_rules_from w op (q ∷ os) p zero o e h =
     let same : o ≡ q = cc in
     let here : op + 0 ≡ op = omega arith in
     In-append_left (operation_rules w op q) (rules_from w (op + 1) os) p
-        (subst (λ n. In (operation_rules w n q) p) here (subst (λ x. In (operation_rules w (op + 0) x) p) same h))
+    (subst (λ n. In (operation_rules w n q) p) here (subst (λ x. In (operation_rules w (op + 0) x) p) same h))
 in_rules_from w op (q ∷ os) p (suc d) o e h =
     let later : op + suc d ≡ (op + 1) + d = omega arith in
     In-append_right (operation_rules w op q) (rules_from w (op + 1) os) p
-        (in_rules_from w (op + 1) os p d o e (subst (λ n. In (operation_rules w n o) p) later h))
+    (in_rules_from w (op + 1) os p d o e (subst (λ n. In (operation_rules w n o) p) later h))
 
 operation_decides : (f : File) (g : Goal) (w : Wanted) (k : IsTask f g w) (op : ℕ) (o : Operation)
     (u : IsUsable f g w.sort op o) (ks : List ℕ)
     → (term_agrees w.cases.items (result_in o.results) ks ≡ true) ↔ IsRule f g (operation_pattern op ks)
 operation_decides f g w k op o u ks =
     subst (λ cs. (term_agrees cs (result_in o.results) ks ≡ true) ↔ IsRule f g (operation_pattern op ks))
-        (sym (cases_are f g w k))
+    (sym (cases_are f g w k))
     (subst (λ t. (term_agrees (cases_of g.args k.term) t ks ≡ true) ↔ IsRule f g (operation_pattern op ks))
-        (ap result_in (sym u.results))
+    (ap result_in (sym u.results))
     (decides_rule f g k.term (operation_pattern op ks)
-        (λ vs. value (map (input_at vs) ks) u.result) k.no_memory k.results
-        (GivesValue-operation f g w.sort op o u ks)))
+    (λ vs. value (map (input_at vs) ks) u.result) k.no_memory k.results
+    (GivesValue-operation f g w.sort op o u ks)))
 
 usable : (f : File) (g : Goal) (w : Wanted) (k : IsTask f g w) (op : ℕ) (o : Operation) → slice_get f.ops op ≡ Some o
     → sort_of (result_in o.results) ≡ Some w.sort → IsUsable f g w.sort op o
 usable f g w k op o there sort_is =
     let known = k.plain o (Contains-from_In f.ops o (In-slice_get f.ops op o there)) in
     let only = one_of_length o.results known.results in
-    record { in_file = there; attrs = known.attrs; result = only.0; results = only.1;
-        sorted = ap (λ rs. sort_of (result_in rs)) (sym only.1) ∙ sort_is }
+    record {
+      in_file = there;
+      attrs = known.attrs;
+      result = only.0;
+      results = only.1;
+      sorted = ap (λ rs. sort_of (result_in rs)) (sym only.1) ∙ sort_is;
+    }
 
 rule_from_operation : (f : File) (g : Goal) (w : Wanted) (k : IsTask f g w) (op : ℕ) (o : Operation) (p : Pattern)
     → slice_get f.ops op ≡ Some o → In (operation_rules w op o) p → IsRuleOfSize f g 1 p
@@ -170,16 +178,19 @@ rule_from_operation f g w k op o p there h =
     let agree = term_agrees w.cases.items (result_in o.results) in
     let inputs = w.sorts.items in
     let c =
-        in_if (option_map_or (same_sort w.sort) (sort_of (result_in o.results)) false)
-        (map (operation_pattern op) (filter agree (tuples inputs o.args))) p h in
+    in_if (option_map_or (same_sort w.sort) (sort_of (result_in o.results)) false)
+    (map (operation_pattern op) (filter agree (tuples inputs o.args))) p h in
     let u = usable f g w k op o there (gives_sort w o c.0) in
     let r = In_of_map (operation_pattern op) (filter agree (tuples inputs o.args)) p c.1 in
     let kept = In_of_filter agree (tuples inputs o.args) r.0 r.1 in
     let fit : Fit g.args o.args r.0 =
-        subst (λ ss. Fit ss o.args r.0) k.wanted.sorts (Fit-from_tuples inputs o.args r.0 kept.0) in
-    subst (IsRuleOfSize f g 1) r.2
-    (IsWellFormed-operation f g k.term w.sort op o r.0 k.results (sorted f g w k) u fit, IsCanonical-operation op r.0,
-        refl, (operation_decides f g w k op o u r.0).0 kept.1)
+    subst (λ ss. Fit ss o.args r.0) k.wanted.sorts (Fit-from_tuples inputs o.args r.0 kept.0) in
+    subst (IsRuleOfSize f g 1) r.2 (
+      IsWellFormed-operation f g k.term w.sort op o r.0 k.results (sorted f g w k) u fit,
+      IsCanonical-operation op r.0,
+      refl,
+      (operation_decides f g w k op o u r.0).0 kept.1,
+    )
 
 rule_from_operations : (f : File) (g : Goal) (w : Wanted) (k : IsTask f g w) (p : Pattern) → In (rules_from w 0 f.ops) p
     → IsRuleOfSize f g 1 p
@@ -197,18 +208,18 @@ operation_from_rule f g w k p wf one rule =
     let agree = term_agrees w.cases.items (result_in o.results) in
     let inputs = w.sorts.items in
     let there : In (tuples inputs o.args) r.places =
-        In-tuples inputs o.args r.places (subst (λ ss. Fit ss o.args r.places) (sym k.wanted.sorts) r.fit) in
+    In-tuples inputs o.args r.places (subst (λ ss. Fit ss o.args r.places) (sym k.wanted.sorts) r.fit) in
     let passes : agree r.places ≡ true =
-        (operation_decides f g w k r.op o r.usable r.places).1 (subst (IsRule f g) (sym r.is) rule) in
+    (operation_decides f g w k r.op o r.usable r.places).1 (subst (IsRule f g) (sym r.is) rule) in
     let listed : In (map (operation_pattern r.op) (filter agree (tuples inputs o.args))) p =
     subst (In (map (operation_pattern r.op) (filter agree (tuples inputs o.args)))) r.is
-        (In-map (operation_pattern r.op) (filter agree (tuples inputs o.args)) r.places
-        (In-filter agree (tuples inputs o.args) r.places there passes)) in
+    (In-map (operation_pattern r.op) (filter agree (tuples inputs o.args)) r.places
+    (In-filter agree (tuples inputs o.args) r.places there passes)) in
     let sort_is : sort_of (result_in o.results) ≡ Some w.sort =
-        ap (λ rs. sort_of (result_in rs)) r.usable.results ∙ r.usable.sorted in
+    ap (λ rs. sort_of (result_in rs)) r.usable.results ∙ r.usable.sorted in
     let found : In (operation_rules w r.op o) p =
-        if_in (option_map_or (same_sort w.sort) (sort_of (result_in o.results)) false)
-        (map (operation_pattern r.op) (filter agree (tuples inputs o.args))) p (sort_given w o sort_is) listed in
+    if_in (option_map_or (same_sort w.sort) (sort_of (result_in o.results)) false)
+    (map (operation_pattern r.op) (filter agree (tuples inputs o.args))) p (sort_given w o sort_is) listed in
     let here : r.op ≡ 0 + r.op = omega arith in
     in_rules_from w 0 f.ops p r.op o r.usable.in_file (subst (λ n. In (operation_rules w n o) p) here found)
 
@@ -226,7 +237,7 @@ IsRising-input_rules w =
     IsRising-from_ordered pattern_cmp (input_rules w)
     (IsOrdered-map (λ (a b : ℕ). a < b) ComesBefore input_pattern inputs_rise (filter (input_agrees w.cases.items) ks)
     (IsOrdered-filter (λ (a b : ℕ). a < b) (input_agrees w.cases.items) ks
-        (IsOrdered-places_from 0 w.sort w.sorts.items)))
+    (IsOrdered-places_from 0 w.sort w.sorts.items)))
 
 sources_as_numbers : (s t : List ℕ)
     → slice_cmp source_cmp (map (λ k. Input k) s) (map (λ k. Input k) t) ≡ slice_cmp nat_cmp s t
@@ -264,9 +275,9 @@ IsOrdered-operation_rules w op o =
     let agree = term_agrees w.cases.items (result_in o.results) in
     let ts = tuples w.sorts.items o.args in
     ordered_if (option_map_or (same_sort w.sort) (sort_of (result_in o.results)) false)
-        (map (operation_pattern op) (filter agree ts))
+    (map (operation_pattern op) (filter agree ts))
     (IsOrdered-map IsBefore ComesBefore (operation_pattern op) (tuples_rise op) (filter agree ts)
-        (IsOrdered-filter IsBefore agree ts (IsOrdered-tuples w.sorts.items o.args)))
+    (IsOrdered-filter IsBefore agree ts (IsOrdered-tuples w.sorts.items o.args)))
 
 -- a rule of an operation is a pattern of it
 pattern_of : (w : Wanted) (op : ℕ) (o : Operation) (p : Pattern) → In (operation_rules w op o) p
@@ -274,8 +285,8 @@ pattern_of : (w : Wanted) (op : ℕ) (o : Operation) (p : Pattern) → In (opera
 pattern_of w op o p h =
     let xs = filter (term_agrees w.cases.items (result_in o.results)) (tuples w.sorts.items o.args) in
     let c =
-        in_if (option_map_or (same_sort w.sort) (sort_of (result_in o.results)) false)
-        (map (operation_pattern op) xs) p h in
+    in_if (option_map_or (same_sort w.sort) (sort_of (result_in o.results)) false)
+    (map (operation_pattern op) xs) p h in
     let r = In_of_map (operation_pattern op) xs p c.1 in
     (r.0, r.2)
 
@@ -286,13 +297,13 @@ earlier_first w op o os p q i j =
     let r = of_rules_from w (op + 1) os q j in
     let b = pattern_of w ((op + 1) + r.0) r.1 q r.3 in
     subst (λ x. ComesBefore x q) a.1
-        (subst (ComesBefore (operation_pattern op a.0)) b.1 (operations_rise op ((op + 1) + r.0) a.0 b.0 (omega arith)))
+    (subst (ComesBefore (operation_pattern op a.0)) b.1 (operations_rise op ((op + 1) + r.0) a.0 b.0 (omega arith)))
 
 IsOrdered-rules_from : (w : Wanted) (op : ℕ) (os : List Operation) → IsOrdered ComesBefore (rules_from w op os)
 IsOrdered-rules_from w op [] = tt
 IsOrdered-rules_from w op (o ∷ os) =
     IsOrdered-append ComesBefore (operation_rules w op o) (rules_from w (op + 1) os) (IsOrdered-operation_rules w op o)
-        (IsOrdered-rules_from w (op + 1) os) (earlier_first w op o os)
+    (IsOrdered-rules_from w (op + 1) os) (earlier_first w op o os)
 
 -- ---- the library
 
@@ -301,8 +312,10 @@ input_AreRules f g w k = record {
   no_memory = k.no_memory;
   rising = IsRising-input_rules w;
   members =
-      λ p. (λ c. rule_from_input f g w k p (In-from_Contains (input_rules w) p c),
-      λ r. Contains-from_In (input_rules w) p (input_from_rule f g w k p r.0 r.2 r.3));
+      λ p. (
+        λ c. rule_from_input f g w k p (In-from_Contains (input_rules w) p c),
+        λ r. Contains-from_In (input_rules w) p (input_from_rule f g w k p r.0 r.2 r.3),
+      );
 }
 
 operation_AreRules : (f : File) (g : Goal) (w : Wanted) → IsTask f g w → AreRules f g 1 (rules_from w 0 f.ops)
@@ -310,8 +323,10 @@ operation_AreRules f g w k = record {
   no_memory = k.no_memory;
   rising = IsRising-from_ordered pattern_cmp (rules_from w 0 f.ops) (IsOrdered-rules_from w 0 f.ops);
   members =
-      λ p. (λ c. rule_from_operations f g w k p (In-from_Contains (rules_from w 0 f.ops) p c),
-      λ r. Contains-from_In (rules_from w 0 f.ops) p (operation_from_rule f g w k p r.0 r.2 r.3));
+      λ p. (
+        λ c. rule_from_operations f g w k p (In-from_Contains (rules_from w 0 f.ops) p c),
+        λ r. Contains-from_In (rules_from w 0 f.ops) p (operation_from_rule f g w k p r.0 r.2 r.3),
+      );
 }
 
 no_input_rule : (f : File) (g : Goal) (w : Wanted) → IsTask f g w → input_rules w ≡ [] → (p : Pattern)
@@ -329,14 +344,29 @@ IsLibrary-inputs f g w bound k some =
     elim (cases_nil (input_rules w)) [
       | inl none ↦ absurd (some none)
       | inr x ↦ (let r = rule_from_input f g w k x.0 x.1 in
-          inr (0, omega arith, record { pattern = x.0; well_formed = r.0; rule = r.3; of_size = r.2;
-              least = λ p wf l. absurd (omega (arith, l)) }, input_AreRules f g w k))
+          inr (
+            0,
+            omega arith,
+            record {
+              pattern = x.0;
+              well_formed = r.0;
+              rule = r.3;
+              of_size = r.2;
+              least = λ p wf l. absurd (omega (arith, l));
+            },
+            input_AreRules f g w k,
+          ))
     ]
 
 pub IsLibrary-no_inputs : (f : File) (g : Goal) (w : Wanted) → IsTask f g w → input_rules w ≡ [] → IsLibrary f g 0 []
 IsLibrary-no_inputs f g w k none =
-    inl (record { no_memory = k.no_memory;
-    none = λ p wf size rule. no_input_rule f g w k none p wf (omega arith) rule }, refl)
+    inl (
+      record {
+        no_memory = k.no_memory;
+        none = λ p wf size rule. no_input_rule f g w k none p wf (omega arith) rule;
+      },
+      refl,
+    )
 
 pub IsLibrary-operations : (f : File) (g : Goal) (w : Wanted) → IsTask f g w → input_rules w ≡ []
     → IsLibrary f g 1 (rules_from w 0 f.ops)
@@ -347,8 +377,18 @@ IsLibrary-operations f g w k none =
         empty,
       )
       | inr x ↦ (let r = rule_from_operations f g w k x.0 x.1 in
-          inr (1, omega arith, record { pattern = x.0; well_formed = r.0; rule = r.3; of_size = r.2;
-              least = λ p wf l rule. no_input_rule f g w k none p wf (omega arith) rule }, operation_AreRules f g w k))
+          inr (
+            1,
+            omega arith,
+            record {
+              pattern = x.0;
+              well_formed = r.0;
+              rule = r.3;
+              of_size = r.2;
+              least = λ p wf l rule. no_input_rule f g w k none p wf (omega arith) rule;
+            },
+            operation_AreRules f g w k,
+          ))
     ]
   where
     by_size : (p : Pattern) → IsWellFormed f g p → IsRule f g p → rules_from w 0 f.ops ≡ [] → (n : ℕ)

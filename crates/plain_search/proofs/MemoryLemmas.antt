@@ -37,7 +37,7 @@ no_memory_first o (s ∷ ss) h = by (length (sort.Mem ∷ (s ∷ ss)) == arity o
 no_memory_over : (o : Op) (s : Sort) (ss : List Sort) → sort_unless (refusal o (s ∷ ss)) s ≡ Some sort.Mem → ⊥
 no_memory_over o s ss h =
     no_memory_first o ss (subst (λ t. sort_unless (refusal o (t ∷ ss)) t ≡ Some sort.Mem)
-        (same_unless (refusal o (s ∷ ss)) s sort.Mem h) h)
+    (same_unless (refusal o (s ∷ ss)) s sort.Mem h) h)
 
 no_memory_alone : (f : Option MakeFault) → sort_unless f sort.Bool ≡ Some sort.Mem → ⊥
 no_memory_alone f h = let e = same_unless f sort.Bool sort.Mem h in cc
@@ -83,8 +83,8 @@ no_memory g t one plain stays = record {
   args = plain;
   results = λ h.
       let i =
-          subst (λ ts. In (map sort_of ts) (Some sort.Mem)) one
-          (In-from_Contains (map sort_of g.results) (Some sort.Mem) h) in
+      subst (λ ts. In (map sort_of ts) (Some sort.Mem)) one
+      (In-from_Contains (map sort_of g.results) (Some sort.Mem) h) in
       by i;
 }
   where

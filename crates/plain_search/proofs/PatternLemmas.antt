@@ -77,7 +77,7 @@ pub IsInputOf-from_well_formed : (f : File) (g : Goal) (t : Term) (s : Sort) (p 
 IsInputOf-from_well_formed f g t s p one sorted wf none =
     let r = results_of f g t s p one sorted wf in
     input_of_source f g s p r.0 none r.1
-        (subst (λ (ns : List Node). source_sort f g ns (length ns) r.0 ≡ Some s) none r.2)
+    (subst (λ (ns : List Node). source_sort f g ns (length ns) r.0 ≡ Some s) none r.2)
 
 -- ---- one node
 
@@ -207,23 +207,28 @@ IsOverInputs-from_well_formed f g t s p n plain one sorted wf nodes =
     let inputs = inputs_of f g p.nodes n.args o.args fitting.args in
     let ks = inputs.0 in
     let fit : Fit g.args o.args ks =
-        sym (fits_over_inputs f g p.nodes ks) ∙ ap (map (source_sort f g p.nodes 0)) inputs.1 ∙ fitting.args in
+    sym (fits_over_inputs f g p.nodes ks) ∙ ap (map (source_sort f g p.nodes 0)) inputs.1 ∙ fitting.args in
     let bare : n.attrs ≡ [] = no_attributes _ o.attrs n.attrs known.attrs fitting.attrs in
     let r = results_of f g t s p one sorted wf in
     let out =
-        used_by_result n ks r.0 p inputs.1 nodes r.1
-        (wf.used 0 (subst (λ ns. 0 < length ns) (sym nodes) (omega arith))) in
+    used_by_result n ks r.0 p inputs.1 nodes r.1
+    (wf.used 0 (subst (λ ns. 0 < length ns) (sym nodes) (omega arith))) in
     let sort_is : source_sort f g (n ∷ []) 1 (Out 0 out.0) ≡ Some s =
-        (λ i. source_sort f g (sym nodes i) (length (sym nodes i)) (sym out.1 i)) ∙ r.2 in
+    (λ i. source_sort f g (sym nodes i) (length (sym nodes i)) (sym out.1 i)) ∙ r.2 in
     let at : option_and_then sort_of (slice_get o.results out.0) ≡ Some s =
-        ap (λ x. operation_sort x out.0) (sym fitting.in_file) ∙ sort_is in
+    ap (λ x. operation_sort x out.0) (sym fitting.in_file) ∙ sort_is in
     let zeroth = result_zero o.results only.0 s out.0 only.1 at in
     record {
       op = n.op;
       operation = o;
       usable =
-          record { in_file = fitting.in_file; attrs = known.attrs; result = only.0; results = only.1;
-          sorted = zeroth.1 };
+          record {
+            in_file = fitting.in_file;
+            attrs = known.attrs;
+            result = only.0;
+            results = only.1;
+            sorted = zeroth.1;
+          };
       places = ks;
       fit = fit;
       is = λ i. record {

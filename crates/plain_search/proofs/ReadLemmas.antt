@@ -30,7 +30,7 @@ pub same_value_read : (items inputs : List Value) (k place : ℕ) (d r : Value) 
     → place < length inputs → b ≡ same_value (get_or items k d) r → same_value (input_at inputs place) r ≡ b
 same_value_read items inputs k place d r b e f l t =
     ap (λ (x : Value). same_value x r) (sym (get_or-input_at inputs place d l))
-        ∙ (λ i. same_value (get_or (sym e i) (sym f i) d) r) ∙ sym t
+    ∙ (λ i. same_value (get_or (sym e i) (sym f i) d) r) ∙ sym t
 
 -- what holds of each element holds of the one that a loop has come to
 pub here : {X : Type 0} (P : X → Type 0) (xs : List X) (i : ℕ) (x : X) → i < length xs → x ≡ get_or xs i x → All P xs

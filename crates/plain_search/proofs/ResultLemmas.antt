@@ -42,7 +42,7 @@ nodes_found table at items (Ok n) is there exact order results = record {
   order = order;
   fit = λ inputs fits.
       AreSubterms-fit table is (at ∷ []) (items n) exact
-          (all_one (λ (r : TermId). r.0 < length table.nodes) at there) inputs
+      (all_one (λ (r : TermId). r.0 < length table.nodes) at there) inputs
       (all_one (λ (r : TermId). InputsFit inputs (term_at table r)) at fits);
 }
 nodes_found table at items (Err e) is there exact order results = tt
@@ -52,7 +52,7 @@ pub value_stands : (table : Table) (nodes : List TermId) (at : TermId) (inputs r
     → All (IsValued table inputs room) nodes → get_or room at.0 d ≡ value inputs (term_at table at)
 value_stands table nodes at inputs room d h all =
     get_or_from_slice_get room at.0 (value inputs (term_at table at)) d
-        (subst (IsValued table inputs room) h.2 (all h.0 at h.1))
+    (subst (IsValued table inputs room) h.2 (all h.0 at h.1))
 
 -- ---- tables
 
@@ -65,7 +65,7 @@ value-table_of ss t vs h =
     let n = inputs_number ss vs in
     unwrap_or-slice_get (table_of ss t) n (val.Bool false)
     ∙ get_or-map-range_with_len (λ k. value (inputs_numbered ss k) t) 0 (2 ^ sum_by width_of ss) n n (val.Bool false)
-        (inputs_number_lt ss vs h) (omega arith)
+    (inputs_number_lt ss vs h) (omega arith)
     ∙ ap (λ us. value us t) (inputs_numbered-number ss vs h)
 
 table_agrees-term : (ss : List Sort) (t : Term) (ks : List ℕ) (cases : List Case)
@@ -75,8 +75,8 @@ table_agrees-term ss t ks [] h = refl
 table_agrees-term ss t ks (c ∷ cs) h =
     let Fits : Case → Type 0 = λ c. HaveSorts ss (map (input_at c.inputs.values) ks) in
     let first =
-        ap (λ v. same_value v c.result)
-        (value-table_of ss t (map (input_at c.inputs.values) ks) (All-head Fits c cs h)) in
+    ap (λ v. same_value v c.result)
+    (value-table_of ss t (map (input_at c.inputs.values) ks) (All-head Fits c cs h)) in
     let rest = table_agrees-term ss t ks cs (All-tail Fits c cs h) in
     λ i. first i && rest i
 

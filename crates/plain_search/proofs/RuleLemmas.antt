@@ -59,10 +59,10 @@ passes_everywhere p ss t h vs sorts =
     let n = IsNumbered-from_sorts ss vs sorts in
     let count : ℕ = 2 ^ sum_by width_of ss in
     let there : In (range_with_len 0 count) n.0 =
-        subst (In (range_with_len 0 count)) (omega arith) (in_range 0 count n.0 n.1) in
+    subst (In (range_with_len 0 count)) (omega arith) (in_range 0 count n.0 n.1) in
     let passes : p (case_numbered ss t n.0) ≡ true =
-        list_all_in p (cases_of ss t) (case_numbered ss t n.0) h
-        (In-map (case_numbered ss t) (range_with_len 0 count) n.0 there) in
+    list_all_in p (cases_of ss t) (case_numbered ss t n.0) h
+    (In-map (case_numbered ss t) (range_with_len 0 count) n.0 there) in
     subst (λ us. p (case_at t us) ≡ true) n.2 passes
 
 pub passes_all_cases : (p : Case → Bool) (ss : List Sort) (t : Term) → (In ss sort.Mem → ⊥)
@@ -126,9 +126,9 @@ pub GivesValue-operation : (f : File) (g : Goal) (s : Sort) (op : ℕ) (o : Oper
 GivesValue-operation f g s op o u ks vs =
     let args : List Value = map (source_value vs []) (map (λ k. Input k) ks) in
     let there : op_results (slice_get f.ops op) [] args ≡ op_results (Some o) [] args =
-        ap (λ x. op_results x [] args) u.in_file in
+    ap (λ x. op_results x [] args) u.in_file in
     let given : args ++ attr_values o.attrs [] ≡ map (input_at vs) ks =
-        ap (λ as'. args ++ as') (no_attr_values o.attrs u.attrs) ∙ append-nil args ∙ values_of_inputs vs ks in
+    ap (λ as'. args ++ as') (no_attr_values o.attrs u.attrs) ∙ append-nil args ∙ values_of_inputs vs ks in
     let results : op_results (Some o) [] args ≡ value (map (input_at vs) ks) u.result ∷ [] =
-        ap (λ xs. map (value xs) o.results) given ∙ ap (map (value (map (input_at vs) ks))) u.results in
+    ap (λ xs. map (value xs) o.results) given ∙ ap (map (value (map (input_at vs) ks))) u.results in
     ap (λ rs. unwrap_or (slice_get rs 0) (val.Bool false) ∷ []) (there ∙ results)

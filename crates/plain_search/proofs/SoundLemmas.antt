@@ -76,7 +76,7 @@ first_result : (table : Table) (results : List TermId) (at : TermId) → slice_g
 first_result table results at e =
     ap (λ o. unwrap_or o (Apply (op.Bits 0 0) End))
     (slice_get-map (λ (a : TermId). term_in (terms_of table) a.0) results 0
-        ∙ ap (option_map (λ (a : TermId). term_in (terms_of table) a.0)) e)
+    ∙ ap (option_map (λ (a : TermId). term_in (terms_of table) a.0)) e)
 
 -- the goal in a place, by its definition there: the sorts of its arguments, and its only result
 pub record IsGoalAt (s : Spec) (k : ℕ) (ss : List Sort) (at : TermId) : Type 0 where
@@ -118,8 +118,8 @@ pub cases_have_sorts : (ss : List Sort) (t : Term) → (In ss sort.Mem → ⊥)
     → All (λ (c : Case). HaveSorts ss c.inputs.values) (cases_of ss t)
 cases_have_sorts ss t plain =
     All-map (λ (c : Case). HaveSorts ss c.inputs.values) (case_numbered ss t)
-        (range_with_len 0 (2 ^ sum_by width_of ss))
-        (λ k d l. HaveSorts-numbered ss (get_or (range_with_len 0 (2 ^ sum_by width_of ss)) k d) plain)
+    (range_with_len 0 (2 ^ sum_by width_of ss))
+    (λ k d l. HaveSorts-numbered ss (get_or (range_with_len 0 (2 ^ sum_by width_of ss)) k d) plain)
 
 pub IsWanted-from_goal : (s : Spec) (k : ℕ) (at : TermId) (w : Wanted) → IsGoalAt s k w.sorts.items at
     → sort_of (term_at s.terms at) ≡ Some w.sort → w.cases.items ≡ cases_of w.sorts.items (term_at s.terms at)
@@ -175,7 +175,7 @@ pub IsGoalAt-from_sorts : (s : Spec) (k : ℕ) (name : List ℕ) (d : GoalDef) (
     → slice_get d.results 0 ≡ Some at → ss ≡ map (λ a. a.1) args → args ≡ d.args → IsGoalAt s k ss at
 IsGoalAt-from_sorts s k name d at ss args searchable e first is same =
     subst (λ xs. IsGoalAt s k xs at) (sym (is ∙ ap (map (λ (a : Kind × Sort). a.1)) same))
-        (IsGoalAt-from_definition s k name d at searchable e first)
+    (IsGoalAt-from_definition s k name d at searchable e first)
 
 -- a case that the code made
 pub case_is : (ss : List Sort) (t : Term) (n : ℕ) (inputs : Env) (v : Value) (c : Case)

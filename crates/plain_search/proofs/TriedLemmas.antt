@@ -29,8 +29,8 @@ pub input_within : (w : Wanted) → IsTried w → (items : List ℕ) (cases : Li
     → All (λ (c : Case). get_or items i 0 < length c.inputs.values) cases
 input_within w tried items cases i is same l =
     let found : In (places w.sorts.items w.sort) (get_or items i 0) =
-        subst (λ xs. In xs (get_or items i 0)) is
-        (In-from_Contains items (get_or items i 0) (Contains-get_or items i 0 l)) in
+    subst (λ xs. In xs (get_or items i 0)) is
+    (In-from_Contains items (get_or items i 0) (Contains-get_or items i 0 l)) in
     let r = slice_get-places_from 0 w.sort w.sorts.items (get_or items i 0) found in
     let d = slice_get_within w.sorts.items r.0 w.sort r.2 in
     let within : get_or items i 0 < length w.sorts.items = omega (arith, r.1, d) in
@@ -42,15 +42,15 @@ pub tuple_fits : (inputs args : List Sort) (items : List (List ℕ)) (i : ℕ) (
     → i < length items → ks ≡ get_or items i ks → Fit inputs args ks
 tuple_fits inputs args items i ks is l e =
     let found : In (tuples inputs args) (get_or items i ks) =
-        subst (λ xs. In xs (get_or items i ks)) is
-        (In-from_Contains items (get_or items i ks) (Contains-get_or items i ks l)) in
+    subst (λ xs. In xs (get_or items i ks)) is
+    (In-from_Contains items (get_or items i ks) (Contains-get_or items i ks l)) in
     subst (Fit inputs args) (sym e) (Fit-from_tuples inputs args (get_or items i ks) found)
 
 pub tuple_within : (w : Wanted) → IsTried w → (args : List Sort) (ks : List ℕ) → Fit w.sorts.items args ks
     → All (λ (c : Case). All (λ (k : ℕ). k < length c.inputs.values) ks) w.cases.items
 tuple_within w tried args ks fit =
     λ j c m. subst (λ n. All (λ (k : ℕ). k < n) ks) (sym (length-sorts w.sorts.items _ (tried.inputs j c m)))
-        (places_within w.sorts.items args ks fit)
+    (places_within w.sorts.items args ks fit)
 
 pub picked_have_sorts : (w : Wanted) → IsTried w → (args : List Sort) (ks : List ℕ) → Fit w.sorts.items args ks
     → All (λ (c : Case). HaveSorts args (map (input_at c.inputs.values) ks)) w.cases.items
@@ -81,7 +81,7 @@ plain_args w tried args [] is some i = some refl
 plain_args w tried args (ks ∷ rest) is some i =
     let found : In (tuples w.sorts.items args) ks = subst (λ xs. In xs ks) is (inl refl) in
     tried.plain (Contains-from_In w.sorts.items sort.Mem
-        (fit_in w.sorts.items args ks sort.Mem (Fit-from_tuples w.sorts.items args ks found) i))
+    (fit_in w.sorts.items args ks sort.Mem (Fit-from_tuples w.sorts.items args ks found) i))
 
 -- so a term over them has a value under each number
 pub numbered_fit : (w : Wanted) → IsTried w → (args : List Sort) (choices : List (List ℕ)) (t : Term)
@@ -89,7 +89,7 @@ pub numbered_fit : (w : Wanted) → IsTried w → (args : List Sort) (choices : 
     → (choices ≡ [] → ⊥) → stays_in args t ≡ true → (n : ℕ) → InputsFit (inputs_numbered args n) t
 numbered_fit w tried args choices t is some stays n =
     InputsFit-from_sorts args (inputs_numbered args n)
-        (HaveSorts-numbered args n (plain_args w tried args choices is some)) t stays
+    (HaveSorts-numbered args n (plain_args w tried args choices is some)) t stays
 
 -- ---- the rules of an operation
 
@@ -98,8 +98,8 @@ pub no_operation_rules : (w : Wanted) (op : ℕ) (o : Operation) (t : Term) (s :
     → sort_of t ≡ Some s → same_sort w.sort s ≡ false → operation_rules w op o ≡ []
 no_operation_rules w op o t s is sorted other =
     let test : option_map_or (same_sort w.sort) (sort_of (result_in o.results)) false ≡ false =
-        ap (λ u. option_map_or (same_sort w.sort) (sort_of u) false) is
-        ∙ ap (λ x. option_map_or (same_sort w.sort) x false) sorted ∙ other in
+    ap (λ u. option_map_or (same_sort w.sort) (sort_of u) false) is
+    ∙ ap (λ x. option_map_or (same_sort w.sort) x false) sorted ∙ other in
     cond-false (option_map_or (same_sort w.sort) (sort_of (result_in o.results)) false) _ [] test
 
 -- and where it has the sort that is wanted
@@ -109,8 +109,8 @@ pub operation_rules_are : (w : Wanted) (op : ℕ) (o : Operation) (t : Term) (s 
     (filter (term_agrees w.cases.items t) (tuples w.sorts.items args))
 operation_rules_are w op o t s args is sorted same takes =
     let test : option_map_or (same_sort w.sort) (sort_of (result_in o.results)) false ≡ true =
-        ap (λ u. option_map_or (same_sort w.sort) (sort_of u) false) is
-        ∙ ap (λ x. option_map_or (same_sort w.sort) x false) sorted ∙ same in
+    ap (λ u. option_map_or (same_sort w.sort) (sort_of u) false) is
+    ∙ ap (λ x. option_map_or (same_sort w.sort) x false) sorted ∙ same in
     cond-true (option_map_or (same_sort w.sort) (sort_of (result_in o.results)) false) _ [] test
     ∙ (λ i. map (operation_pattern op) (filter (term_agrees w.cases.items (is i)) (tuples w.sorts.items (takes i))))
 
@@ -124,4 +124,4 @@ rules_more w ops op before after whole l adds so_far =
     let rest : List Pattern = rules_from w (op + 1) (drop (op + 1) ops) in
     let added : after ≡ before ++ operation_rules w op o = adds o (slice_get-get_or ops op none l) in
     ap (λ ps. ps ++ rest) added ∙ append_assoc before (operation_rules w op o) rest
-        ∙ ap (λ os. before ++ rules_from w op os) (sym (drop_more ops op none l)) ∙ so_far
+    ∙ ap (λ os. before ++ rules_from w op os) (sym (drop_more ops op none l)) ∙ so_far

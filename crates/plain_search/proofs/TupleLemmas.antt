@@ -59,11 +59,11 @@ In-places_from k s (t ∷ ts) zero h =
     let same : same_sort s t ≡ true = same_sort-refl s t (cc) in
     let here : k ≡ k + 0 = omega arith in
     subst (In (cond (same_sort s t) (k ∷ places_from (k + 1) s ts) (places_from (k + 1) s ts))) here
-        (takes_in (same_sort s t) k (places_from (k + 1) s ts) same)
+    (takes_in (same_sort s t) k (places_from (k + 1) s ts) same)
 In-places_from k s (t ∷ ts) (suc d) h =
     let later : (k + 1) + d ≡ k + suc d = omega arith in
     keeps_in (same_sort s t) k (places_from (k + 1) s ts) (k + suc d)
-        (subst (In (places_from (k + 1) s ts)) later (In-places_from (k + 1) s ts d h))
+    (subst (In (places_from (k + 1) s ts)) later (In-places_from (k + 1) s ts d h))
 
 abbrev IsLess : ℕ → ℕ → Type 0
 IsLess a b = a < b
@@ -80,7 +80,7 @@ pub IsOrdered-places_from : (k : ℕ) (s : Sort) (ts : List Sort) → IsOrdered 
 IsOrdered-places_from k s [] = tt
 IsOrdered-places_from k s (t ∷ ts) =
     ordered_cond (same_sort s t) k (places_from (k + 1) s ts) (places_from_le (k + 1) s ts)
-        (IsOrdered-places_from (k + 1) s ts)
+    (IsOrdered-places_from (k + 1) s ts)
 
 -- ---- tuples
 
@@ -129,7 +129,7 @@ In-tuples inputs (s ∷ ss) (k ∷ ks) h =
     let rest : map (slice_get inputs) ks ≡ map (λ (s : Sort). Some s) ss = cc in
     let here : 0 + k ≡ k = omega arith in
     in_longer (tuples inputs ss) (places inputs s) k ks
-        (subst (In (places inputs s)) here (In-places_from 0 s inputs k first)) (In-tuples inputs ss ks rest)
+    (subst (In (places inputs s)) here (In-places_from 0 s inputs k first)) (In-tuples inputs ss ks rest)
 
 -- before in lexicographic order
 abbrev pub IsBefore : List ℕ → List ℕ → Type 0
@@ -161,7 +161,7 @@ IsOrdered-longer : (ts : List (List ℕ)) (firsts : List ℕ) → IsOrdered IsBe
 IsOrdered-longer ts [] o p = tt
 IsOrdered-longer ts (f ∷ fs) o p =
     IsOrdered-append IsBefore (map (λ t. f ∷ t) ts) (longer ts fs)
-        (IsOrdered-map IsBefore IsBefore (λ t. f ∷ t) (before_by_rest f) ts o) (IsOrdered-longer ts fs o p.1)
+    (IsOrdered-map IsBefore IsBefore (λ t. f ∷ t) (before_by_rest f) ts o) (IsOrdered-longer ts fs o p.1)
     (first_of_map f ts fs p.0)
 
 pub IsOrdered-tuples : (inputs args : List Sort) → IsOrdered IsBefore (tuples inputs args)

@@ -55,7 +55,7 @@ abbrev pub operation_rules : Wanted → ℕ → Operation → List Pattern
 operation_rules w op o =
     if option_map_or (same_sort w.sort) (sort_of (result_in o.results)) false
     then map (operation_pattern op)
-        (filter (term_agrees w.cases.items (result_in o.results)) (tuples w.sorts.items o.args))
+    (filter (term_agrees w.cases.items (result_in o.results)) (tuples w.sorts.items o.args))
     else []
 
 -- the patterns of one node that give what is wanted, where these are the operations from that place on

@@ -68,4 +68,4 @@ table_of ss t = map (λ n. value (inputs_numbered ss n) t) (range_with_len 0 (2 
 abbrev pub table_agrees : List Case → List Value → List Sort → List ℕ → Bool
 table_agrees cases table ss ks =
     list_all (λ (c : Case). same_value (input_at table (inputs_number ss (map (input_at c.inputs.values) ks))) c.result)
-        cases
+    cases

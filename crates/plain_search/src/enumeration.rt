@@ -154,8 +154,7 @@ fn add_agreeing(
     requires choices { choices.now ≡ tuples wanted.now.sorts.items args.now }
     requires room { length terms.now.nodes ≤ length room.old }
     ensures { OnOk result (rules.new.items ≡ rules.old.items
-        ++ map (operation_pattern op) (filter (term_agrees wanted.now.cases.items (term_at terms.now at)) choices.now))
-            }
+        ++ map (operation_pattern op) (filter (term_agrees wanted.now.cases.items (term_at terms.now at)) choices.now)) }
 {
     for choice in choices {
         let places = choice.as_slice();
@@ -194,7 +193,9 @@ fn add_operation_rules(
     }
     let terms = &spec.terms;
     let found = found_for(alloc, terms, args, result, room)?;
-    add_agreeing(alloc, terms, op as u16, &found, args, result, wanted, &choices, room, rules)
+    add_agreeing(
+        alloc, terms, op as u16, &found, args, result, wanted, &choices, room, rules,
+    )
 }
 
 /// The patterns of one node that give what is wanted, in order.

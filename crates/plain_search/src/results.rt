@@ -158,6 +158,14 @@ pub fn does_operation_agree(
 {
     match found {
         Found::Table(table) => Ok(does_table_agree(table.as_slice(), sorts, cases, places)),
-        Found::Nodes(nodes) => does_term_agree(alloc, terms, nodes.as_slice(), at, cases, places, room),
+        Found::Nodes(nodes) => does_term_agree(
+            alloc,
+            terms,
+            nodes.as_slice(),
+            at,
+            cases,
+            places,
+            room,
+        ),
     }
 }

@@ -18,11 +18,11 @@ node_results-requires-clause-given c =
     let node = c.index-nodes-place.result in
     let g = some_goal c.args.spec.now c.args.goal c.requires.there in
     let at : slice_get nodes c.loop-place.place ≡ Some node =
-        slice_get-get_or nodes c.loop-place.place node c.loop-place-test.true
-        ∙ ap (λ (n : Node). Some n) (sym c.index-nodes-place.is) in
+    slice_get-get_or nodes c.loop-place.place node c.loop-place-test.true
+    ∙ ap (λ (n : Node). Some n) (sym c.index-nodes-place.is) in
     let here : IsNodeGiven c.args.spec.now node c.args.inputs.now c.loop-place.outs.items =
-        IsNodeGiven-from c.args.spec.now c.args.goal g.0 nodes c.args.inputs.now c.loop-place.outs.items
-        c.loop-place.place node g.1 c.loop-place.invariant (c.requires.fits g.0 g.1) at in
+    IsNodeGiven-from c.args.spec.now c.args.goal g.0 nodes c.args.inputs.now c.loop-place.outs.items
+    c.loop-place.place node g.1 c.loop-place.invariant (c.requires.fits g.0 g.1) at in
     subst (IsNodeGiven c.args.spec.now node c.args.inputs.now) (sym c.as_slice.ensures.value) here
 
 pub loop-place-preserved : goal.loop-place-preserved
@@ -31,17 +31,17 @@ loop-place-preserved c =
     let node = c.index-nodes-place.result in
     let g = some_goal c.args.spec.now c.args.goal c.requires.there in
     let at : slice_get nodes c.loop-place.place ≡ Some node =
-        slice_get-get_or nodes c.loop-place.place node c.loop-place-test.true
-        ∙ ap (λ (n : Node). Some n) (sym c.index-nodes-place.is) in
+    slice_get-get_or nodes c.loop-place.place node c.loop-place-test.true
+    ∙ ap (λ (n : Node). Some n) (sym c.index-nodes-place.is) in
     let here : IsNodeGiven c.args.spec.now node c.args.inputs.now c.loop-place.outs.items =
-        IsNodeGiven-from c.args.spec.now c.args.goal g.0 nodes c.args.inputs.now c.loop-place.outs.items
-        c.loop-place.place node g.1 c.loop-place.invariant (c.requires.fits g.0 g.1) at in
+    IsNodeGiven-from c.args.spec.now c.args.goal g.0 nodes c.args.inputs.now c.loop-place.outs.items
+    c.loop-place.place node g.1 c.loop-place.invariant (c.requires.fits g.0 g.1) at in
     let results =
-        c.in_ok-found.ensures ∙ ap (λ os. op_results (slice_get (file c.args.spec.now).ops node.op) node.attrs
-        (map (source_value c.args.inputs.now os) node.args)) c.as_slice.ensures.value in
+    c.in_ok-found.ensures ∙ ap (λ os. op_results (slice_get (file c.args.spec.now).ops node.op) node.attrs
+    (map (source_value c.args.inputs.now os) node.args)) c.as_slice.ensures.value in
     IsGiven-more c.args.spec.now c.args.goal nodes c.args.inputs.now c.loop-place.outs.items c.loop-place.place node
-        c.from_vec.result c.push.new.self.items c.loop-place.invariant at c.loop-place-test.true c.index-nodes-place.is
-        here
+    c.from_vec.result c.push.new.self.items c.loop-place.invariant at c.loop-place-test.true c.index-nodes-place.is
+    here
     (c.from_vec.ensures ∙ results) c.in_ok-push.ensures.items
 
 pub returns : goal.returns

@@ -10,27 +10,27 @@ pub values_of-requires-clause-there : goal.values_of-requires-clause-there
 values_of-requires-clause-there c =
     let d = c.goal-definition.ensures in
     let can =
-        CanEval-goal c.args.spec.now c.args.goal d.0 c.goal-definition.result.now c.as_slice-results.result.now
-        c.args.inputs.now c.from_vec.result d.1 c.as_slice-results.ensures
-        (c.from_vec.ensures ∙ c.in_ok-from_slice.ensures.items) c.requires.inputs in
+    CanEval-goal c.args.spec.now c.args.goal d.0 c.goal-definition.result.now c.as_slice-results.result.now
+    c.args.inputs.now c.from_vec.result d.1 c.as_slice-results.ensures
+    (c.from_vec.ensures ∙ c.in_ok-from_slice.ensures.items) c.requires.inputs in
     can.there
 
 pub values_of-requires-clause-inputs : goal.values_of-requires-clause-inputs
 values_of-requires-clause-inputs c =
     let d = c.goal-definition.ensures in
     let can =
-        CanEval-goal c.args.spec.now c.args.goal d.0 c.goal-definition.result.now c.as_slice-results.result.now
-        c.args.inputs.now c.from_vec.result d.1 c.as_slice-results.ensures
-        (c.from_vec.ensures ∙ c.in_ok-from_slice.ensures.items) c.requires.inputs in
+    CanEval-goal c.args.spec.now c.args.goal d.0 c.goal-definition.result.now c.as_slice-results.result.now
+    c.args.inputs.now c.from_vec.result d.1 c.as_slice-results.ensures
+    (c.from_vec.ensures ∙ c.in_ok-from_slice.ensures.items) c.requires.inputs in
     can.fit
 
 pub returns : goal.returns
 returns c =
     let d = c.goal-definition.ensures in
     IfOk-weaker c.values_of.result
-        (λ v. v.items ≡ map (λ (at : TermId). value c.from_vec.result (term_at c.args.spec.now.terms at))
-        c.as_slice-results.result.now) _
+    (λ v. v.items ≡ map (λ (at : TermId). value c.from_vec.result (term_at c.args.spec.now.terms at))
+    c.as_slice-results.result.now) _
     (λ v is g h. is ∙ goal_values c.args.spec.now c.args.goal d.0 c.goal-definition.result.now g
-        c.as_slice-results.result.now c.args.inputs.now c.from_vec.result d.1 h c.as_slice-results.ensures
-        (c.from_vec.ensures ∙ c.in_ok-from_slice.ensures.items))
+    c.as_slice-results.result.now c.args.inputs.now c.from_vec.result d.1 h c.as_slice-results.ensures
+    (c.from_vec.ensures ∙ c.in_ok-from_slice.ensures.items))
     c.values_of.ensures

@@ -19,10 +19,10 @@ returns-in_default c =
     let nodes = c.as_slice-nodes.result.now in
     let xs = c.as_slice-source-items.result.now in
     let before : All (IsBefore (length nodes)) xs =
-        before-results p nodes xs c.as_slice-nodes.ensures c.as_slice-source-items.ensures c.requires.forward in
+    before-results p nodes xs c.as_slice-nodes.ensures c.as_slice-source-items.ensures c.requires.forward in
     let out =
-        HasWalked-fails nodes (length nodes) 0 c.loop-source.left xs c.loop-source.source-index
-        (Input 0) c.loop-source.invariant c.loop-source-test.true before c.in_default.ensures.walked in
+    HasWalked-fails nodes (length nodes) 0 c.loop-source.left xs c.loop-source.source-index
+    (Input 0) c.loop-source.invariant c.loop-source-test.true before c.in_default.ensures.walked in
     (λ t. cc, λ h. absurd (canonical-fails p nodes xs c.as_slice-nodes.ensures c.as_slice-source-items.ensures out h))
 
 pub loop-source-preserved : goal.loop-source-preserved
@@ -31,10 +31,10 @@ loop-source-preserved c =
     let nodes = c.as_slice-nodes.result.now in
     let xs = c.as_slice-source-items.result.now in
     let before : All (IsBefore (length nodes)) xs =
-        before-results p nodes xs c.as_slice-nodes.ensures c.as_slice-source-items.ensures c.requires.forward in
+    before-results p nodes xs c.as_slice-nodes.ensures c.as_slice-source-items.ensures c.requires.forward in
     HasWalked-more nodes (length nodes) 0 c.loop-source.left c.in-Some.more xs c.loop-source.source-index
-        (Input 0) c.loop-source.invariant c.loop-source-test.true before c.in-Some.ensures.within
-        c.in-Some.ensures.walked
+    (Input 0) c.loop-source.invariant c.loop-source-test.true before c.in-Some.ensures.within
+    c.in-Some.ensures.walked
 
 pub returns : goal.returns
 returns c =
@@ -42,6 +42,6 @@ returns c =
     let nodes = c.as_slice-nodes.result.now in
     let xs = c.as_slice-source-items.result.now in
     let done =
-        HasWalked-end nodes (length nodes) 0 c.loop-source.left xs c.loop-source.source-index c.loop-source.invariant
-        c.loop-source-test.false in
+    HasWalked-end nodes (length nodes) 0 c.loop-source.left xs c.loop-source.source-index c.loop-source.invariant
+    c.loop-source-test.false in
     canonical-decides p nodes xs c.loop-source.left c.as_slice-nodes.ensures c.as_slice-source-items.ensures done

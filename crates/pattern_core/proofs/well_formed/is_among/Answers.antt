@@ -7,8 +7,8 @@ use Rattle.pattern_core.proofs.well_formed.is_among.Goals as goal
 pub loop-source-preserved : goal.loop-source-preserved
 loop-source-preserved c =
     All-more (λ s. IsOf c.args.node s → ⊥) c.args.sources.now c.loop-source.source-index
-        (Input 0) c.loop-source-test.true c.loop-source.invariant
-        (never c.is_of.result c.if-is_of.false c.is_of.ensures)
+    (Input 0) c.loop-source-test.true c.loop-source.invariant
+    (never c.is_of.result c.if-is_of.false c.is_of.ensures)
 
 pub returns : goal.returns
 returns c =

@@ -8,4 +8,4 @@ abbrev pub invariant-loop-choice : goal.invariant-loop-choice
 invariant-loop-choice l =
     l.rules.items ≡ l.fn.rules.items
     ++ map (operation_pattern l.op)
-        (filter (term_agrees l.wanted.cases.items (term_at l.terms l.at)) (take l.choice-index l.choices))
+    (filter (term_agrees l.wanted.cases.items (term_at l.terms l.at)) (take l.choice-index l.choices))

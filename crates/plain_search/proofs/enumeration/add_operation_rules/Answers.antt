@@ -18,85 +18,85 @@ first-result-requires c = let k = IsSoundOp_at c.args.spec.now c.args.op _ c.op-
 pub sort-requires : goal.sort-requires
 sort-requires c =
     let k =
-        IsOperationAt-from_definition c.args.spec.now c.args.op _ _ c.first-result.result c.requires.plain
-        c.op-definition.ensures.1 c.first-result.ensures in
+    IsOperationAt-from_definition c.args.spec.now c.args.op _ _ c.first-result.result c.requires.plain
+    c.op-definition.ensures.1 c.first-result.ensures in
     k.there
 
 pub returns-then-not-is_same : goal.returns-then-not-is_same
 returns-then-not-is_same c =
     let k =
-        IsOperationAt-from_definition c.args.spec.now c.args.op _ _ c.first-result.result c.requires.plain
-        c.op-definition.ensures.1 c.first-result.ensures in
+    IsOperationAt-from_definition c.args.spec.now c.args.op _ _ c.first-result.result c.requires.plain
+    c.op-definition.ensures.1 c.first-result.ensures in
     λ o there.
     let none =
-        no_operation_rules c.args.wanted.now c.args.op o
-        (term_at c.args.spec.now.terms c.first-result.result) c.sort.result (k.result o there) c.sort.ensures
-        (sym c.is_same.ensures ∙ c.if-not-is_same.true) in
+    no_operation_rules c.args.wanted.now c.args.op o
+    (term_at c.args.spec.now.terms c.first-result.result) c.sort.result (k.result o there) c.sort.ensures
+    (sym c.is_same.ensures ∙ c.if-not-is_same.true) in
     sym (ap (λ (ps : List Pattern). c.args.rules.now.items ++ ps) none ∙ append-nil c.args.rules.now.items)
 
 pub returns-then-is_empty : goal.returns-then-is_empty
 returns-then-is_empty c =
     let k =
-        subst (λ ss. IsOperationAt c.args.spec.now c.args.op ss c.first-result.result) (sym c.as_slice-args.ensures)
-        (IsOperationAt-from_definition c.args.spec.now c.args.op _ _ c.first-result.result c.requires.plain
-        c.op-definition.ensures.1 c.first-result.ensures) in
+    subst (λ ss. IsOperationAt c.args.spec.now c.args.op ss c.first-result.result) (sym c.as_slice-args.ensures)
+    (IsOperationAt-from_definition c.args.spec.now c.args.op _ _ c.first-result.result c.requires.plain
+    c.op-definition.ensures.1 c.first-result.ensures) in
     let are = c.in_ok-choices.ensures ∙ ap (λ ss. tuples ss c.as_slice-args.result.now) c.deref.ensures.value in
     λ o there.
     let rules =
-        operation_rules_are c.args.wanted.now c.args.op o
-        (term_at c.args.spec.now.terms c.first-result.result) c.sort.result c.as_slice-args.result.now
-        (k.result o there) c.sort.ensures (sym c.is_same.ensures ∙ c.if-not-is_same.false) (k.args o there) in
+    operation_rules_are c.args.wanted.now c.args.op o
+    (term_at c.args.spec.now.terms c.first-result.result) c.sort.result c.as_slice-args.result.now
+    (k.result o there) c.sort.ensures (sym c.is_same.ensures ∙ c.if-not-is_same.false) (k.args o there) in
     let none =
-        nil_from_length c.in_ok-choices.choices.items
-        (sym c.in_ok-choices.choices.ok.0
-        ∙ eqb-true (vec_len c.in_ok-choices.choices) 0 (sym c.is_empty.ensures ∙ c.if-is_empty.true)) in
+    nil_from_length c.in_ok-choices.choices.items
+    (sym c.in_ok-choices.choices.ok.0
+    ∙ eqb-true (vec_len c.in_ok-choices.choices) 0 (sym c.is_empty.ensures ∙ c.if-is_empty.true)) in
     let agree = term_agrees c.args.wanted.now.cases.items (term_at c.args.spec.now.terms c.first-result.result) in
     sym (ap (λ (ps : List Pattern). c.args.rules.now.items ++ ps)
-        (rules ∙ ap (λ (xs : List (List ℕ)). map (operation_pattern c.args.op) (filter agree xs)) (sym are ∙ none))
-        ∙ append-nil c.args.rules.now.items)
+    (rules ∙ ap (λ (xs : List (List ℕ)). map (operation_pattern c.args.op) (filter agree xs)) (sym are ∙ none))
+    ∙ append-nil c.args.rules.now.items)
 
 pub found_for-requires-clause-there : goal.found_for-requires-clause-there
 found_for-requires-clause-there c =
     let k =
-        subst (λ ss. IsOperationAt c.args.spec.now c.args.op ss c.first-result.result) (sym c.as_slice-args.ensures)
-        (IsOperationAt-from_definition c.args.spec.now c.args.op _ _ c.first-result.result c.requires.plain
-        c.op-definition.ensures.1 c.first-result.ensures) in
+    subst (λ ss. IsOperationAt c.args.spec.now c.args.op ss c.first-result.result) (sym c.as_slice-args.ensures)
+    (IsOperationAt-from_definition c.args.spec.now c.args.op _ _ c.first-result.result c.requires.plain
+    c.op-definition.ensures.1 c.first-result.ensures) in
     k.there
 
 pub found_for-requires-clause-inputs : goal.found_for-requires-clause-inputs
 found_for-requires-clause-inputs c =
     let k =
-        subst (λ ss. IsOperationAt c.args.spec.now c.args.op ss c.first-result.result) (sym c.as_slice-args.ensures)
-        (IsOperationAt-from_definition c.args.spec.now c.args.op _ _ c.first-result.result c.requires.plain
-        c.op-definition.ensures.1 c.first-result.ensures) in
+    subst (λ ss. IsOperationAt c.args.spec.now c.args.op ss c.first-result.result) (sym c.as_slice-args.ensures)
+    (IsOperationAt-from_definition c.args.spec.now c.args.op _ _ c.first-result.result c.requires.plain
+    c.op-definition.ensures.1 c.first-result.ensures) in
     let are = c.in_ok-choices.ensures ∙ ap (λ ss. tuples ss c.as_slice-args.result.now) c.deref.ensures.value in
     let some : c.in_ok-choices.choices.items ≡ [] → ⊥ =
-        not_empty c.in_ok-choices.choices.items (vec_len c.in_ok-choices.choices) c.in_ok-choices.choices.ok.0
-        (sym c.is_empty.ensures ∙ c.if-is_empty.false) in
+    not_empty c.in_ok-choices.choices.items (vec_len c.in_ok-choices.choices) c.in_ok-choices.choices.ok.0
+    (sym c.is_empty.ensures ∙ c.if-is_empty.false) in
     numbered_fit c.args.wanted.now c.requires.tried c.as_slice-args.result.now c.in_ok-choices.choices.items
-        (term_at c.args.spec.now.terms c.first-result.result) are some k.stays
+    (term_at c.args.spec.now.terms c.first-result.result) are some k.stays
 
 pub add_agreeing-requires-clause-stays : goal.add_agreeing-requires-clause-stays
 add_agreeing-requires-clause-stays c =
     let k =
-        subst (λ ss. IsOperationAt c.args.spec.now c.args.op ss c.first-result.result) (sym c.as_slice-args.ensures)
-        (IsOperationAt-from_definition c.args.spec.now c.args.op _ _ c.first-result.result c.requires.plain
-        c.op-definition.ensures.1 c.first-result.ensures) in
+    subst (λ ss. IsOperationAt c.args.spec.now c.args.op ss c.first-result.result) (sym c.as_slice-args.ensures)
+    (IsOperationAt-from_definition c.args.spec.now c.args.op _ _ c.first-result.result c.requires.plain
+    c.op-definition.ensures.1 c.first-result.ensures) in
     k.stays
 
 pub returns : goal.returns
 returns c =
     let k =
-        subst (λ ss. IsOperationAt c.args.spec.now c.args.op ss c.first-result.result) (sym c.as_slice-args.ensures)
-        (IsOperationAt-from_definition c.args.spec.now c.args.op _ _ c.first-result.result c.requires.plain
-        c.op-definition.ensures.1 c.first-result.ensures) in
+    subst (λ ss. IsOperationAt c.args.spec.now c.args.op ss c.first-result.result) (sym c.as_slice-args.ensures)
+    (IsOperationAt-from_definition c.args.spec.now c.args.op _ _ c.first-result.result c.requires.plain
+    c.op-definition.ensures.1 c.first-result.ensures) in
     let are = c.in_ok-choices.ensures ∙ ap (λ ss. tuples ss c.as_slice-args.result.now) c.deref.ensures.value in
     on_ok_weaker c.add_agreeing.result (λ added o there.
     let rules =
-        operation_rules_are c.args.wanted.now c.args.op o
-        (term_at c.args.spec.now.terms c.first-result.result) c.sort.result c.as_slice-args.result.now
-        (k.result o there) c.sort.ensures (sym c.is_same.ensures ∙ c.if-not-is_same.false) (k.args o there) in
+    operation_rules_are c.args.wanted.now c.args.op o
+    (term_at c.args.spec.now.terms c.first-result.result) c.sort.result c.as_slice-args.result.now
+    (k.result o there) c.sort.ensures (sym c.is_same.ensures ∙ c.if-not-is_same.false) (k.args o there) in
     added ∙ ap (λ (ps : List Pattern). c.args.rules.now.items ++ ps)
-        (ap (λ (xs : List (List ℕ)). map (operation_pattern c.args.op)
-        (filter (term_agrees c.args.wanted.now.cases.items (term_at c.args.spec.now.terms c.first-result.result)) xs))
-        (c.deref-2.ensures.value ∙ are) ∙ sym rules)) c.add_agreeing.ensures
+    (ap (λ (xs : List (List ℕ)). map (operation_pattern c.args.op)
+    (filter (term_agrees c.args.wanted.now.cases.items (term_at c.args.spec.now.terms c.first-result.result)) xs))
+    (c.deref-2.ensures.value ∙ are) ∙ sym rules)) c.add_agreeing.ensures

@@ -13,8 +13,8 @@ returns-then-bound-eq0 c = λ g there.
     let w = c.in_ok-wanted.wanted in
     let rules = c.in_ok-rules.rules in
     let task =
-        IsTask-from_searchable (file c.args.spec.now) c.args.goal g w c.requires.searchable there
-        (c.in_ok-wanted.ensures.wanted g there) in
+    IsTask-from_searchable (file c.args.spec.now) c.args.goal g w c.requires.searchable there
+    (c.in_ok-wanted.ensures.wanted g there) in
     IsLibrary-from_inputs (file c.args.spec.now) g w c.args.bound rules.items task c.in_ok-rules.ensures
     (elim c.then-bound-eq0.branch [
       | then-bound-eq0-via-then-bound-eq0 v ↦ inl v.if-bound-eq0.true
@@ -31,7 +31,7 @@ returns c =
     let none : rules.items ≡ [] = nil_from_length rules.items (sym rules.ok.0 ∙ empty) in
     IfOk-weaker c.operation_rules.result _ _ (λ found is g there.
     let task =
-        IsTask-from_searchable (file c.args.spec.now) c.args.goal g w c.requires.searchable there
-        (c.in_ok-wanted.ensures.wanted g there) in
+    IsTask-from_searchable (file c.args.spec.now) c.args.goal g w c.requires.searchable there
+    (c.in_ok-wanted.ensures.wanted g there) in
     IsLibrary-from_operations (file c.args.spec.now) g w c.args.bound found.items task c.requires.bound
-        c.if-bound-eq0.false (sym c.in_ok-rules.ensures ∙ none) is) c.operation_rules.ensures
+    c.if-bound-eq0.false (sym c.in_ok-rules.ensures ∙ none) is) c.operation_rules.ensures

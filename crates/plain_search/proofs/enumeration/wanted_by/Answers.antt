@@ -13,53 +13,53 @@ first-result-requires c = let k = IsSoundGoal_at c.args.spec.now c.args.goal _ c
 pub all_cases-requires-clause-there : goal.all_cases-requires-clause-there
 all_cases-requires-clause-there c =
     let k =
-        IsGoalAt-from_sorts c.args.spec.now c.args.goal _ _ c.first-result.result c.deref.result.now
-        c.as_slice.result.now c.requires.searchable c.goal-definition.ensures.1 c.first-result.ensures
-        (c.deref.ensures.value ∙ c.in_ok-sorts.ensures) c.as_slice.ensures in
+    IsGoalAt-from_sorts c.args.spec.now c.args.goal _ _ c.first-result.result c.deref.result.now
+    c.as_slice.result.now c.requires.searchable c.goal-definition.ensures.1 c.first-result.ensures
+    (c.deref.ensures.value ∙ c.in_ok-sorts.ensures) c.as_slice.ensures in
     k.there
 
 pub all_cases-requires-clause-few : goal.all_cases-requires-clause-few
 all_cases-requires-clause-few c =
     let k =
-        IsGoalAt-from_sorts c.args.spec.now c.args.goal _ _ c.first-result.result c.deref.result.now
-        c.as_slice.result.now c.requires.searchable c.goal-definition.ensures.1 c.first-result.ensures
-        (c.deref.ensures.value ∙ c.in_ok-sorts.ensures) c.as_slice.ensures in
+    IsGoalAt-from_sorts c.args.spec.now c.args.goal _ _ c.first-result.result c.deref.result.now
+    c.as_slice.result.now c.requires.searchable c.goal-definition.ensures.1 c.first-result.ensures
+    (c.deref.ensures.value ∙ c.in_ok-sorts.ensures) c.as_slice.ensures in
     k.few
 
 pub all_cases-requires-clause-inputs : goal.all_cases-requires-clause-inputs
 all_cases-requires-clause-inputs c =
     let k =
-        IsGoalAt-from_sorts c.args.spec.now c.args.goal _ _ c.first-result.result c.deref.result.now
-        c.as_slice.result.now c.requires.searchable c.goal-definition.ensures.1 c.first-result.ensures
-        (c.deref.ensures.value ∙ c.in_ok-sorts.ensures) c.as_slice.ensures in
+    IsGoalAt-from_sorts c.args.spec.now c.args.goal _ _ c.first-result.result c.deref.result.now
+    c.as_slice.result.now c.requires.searchable c.goal-definition.ensures.1 c.first-result.ensures
+    (c.deref.ensures.value ∙ c.in_ok-sorts.ensures) c.as_slice.ensures in
     InputsFit-numbered c.args.spec.now c.args.goal c.deref.result.now c.first-result.result k
 
 pub sort-requires : goal.sort-requires
 sort-requires c =
     let k =
-        IsGoalAt-from_sorts c.args.spec.now c.args.goal _ _ c.first-result.result c.in_ok-sorts.sorts.items
-        c.as_slice.result.now c.requires.searchable c.goal-definition.ensures.1 c.first-result.ensures
-        c.in_ok-sorts.ensures c.as_slice.ensures in
+    IsGoalAt-from_sorts c.args.spec.now c.args.goal _ _ c.first-result.result c.in_ok-sorts.sorts.items
+    c.as_slice.result.now c.requires.searchable c.goal-definition.ensures.1 c.first-result.ensures
+    c.in_ok-sorts.ensures c.as_slice.ensures in
     k.there
 
 pub returns-clause-wanted : goal.returns-clause-wanted
 returns-clause-wanted c =
     let k =
-        IsGoalAt-from_sorts c.args.spec.now c.args.goal _ _ c.first-result.result c.in_ok-sorts.sorts.items
-        c.as_slice.result.now c.requires.searchable c.goal-definition.ensures.1 c.first-result.ensures
-        c.in_ok-sorts.ensures c.as_slice.ensures in
+    IsGoalAt-from_sorts c.args.spec.now c.args.goal _ _ c.first-result.result c.in_ok-sorts.sorts.items
+    c.as_slice.result.now c.requires.searchable c.goal-definition.ensures.1 c.first-result.ensures
+    c.in_ok-sorts.ensures c.as_slice.ensures in
     IsWanted-from_goal c.args.spec.now c.args.goal c.first-result.result
-        (record { sorts = c.in_ok-sorts.sorts; sort = c.sort.result; cases = c.in_ok-cases.cases }) k c.sort.ensures
-        (c.in_ok-cases.ensures ∙ ap (λ (ss : List Sort). cases_of ss
-        (term_at c.args.spec.now.terms c.first-result.result)) c.deref.ensures.value)
+    (record { sorts = c.in_ok-sorts.sorts; sort = c.sort.result; cases = c.in_ok-cases.cases }) k c.sort.ensures
+    (c.in_ok-cases.ensures ∙ ap (λ (ss : List Sort). cases_of ss
+    (term_at c.args.spec.now.terms c.first-result.result)) c.deref.ensures.value)
 
 pub returns-clause-tried : goal.returns-clause-tried
 returns-clause-tried c =
     let k =
-        IsGoalAt-from_sorts c.args.spec.now c.args.goal _ _ c.first-result.result c.in_ok-sorts.sorts.items
-        c.as_slice.result.now c.requires.searchable c.goal-definition.ensures.1 c.first-result.ensures
-        c.in_ok-sorts.ensures c.as_slice.ensures in
+    IsGoalAt-from_sorts c.args.spec.now c.args.goal _ _ c.first-result.result c.in_ok-sorts.sorts.items
+    c.as_slice.result.now c.requires.searchable c.goal-definition.ensures.1 c.first-result.ensures
+    c.in_ok-sorts.ensures c.as_slice.ensures in
     IsTried-from_goal c.args.spec.now c.args.goal c.first-result.result
-        (record { sorts = c.in_ok-sorts.sorts; sort = c.sort.result; cases = c.in_ok-cases.cases }) k
-        (c.in_ok-cases.ensures ∙ ap (λ (ss : List Sort). cases_of ss
-        (term_at c.args.spec.now.terms c.first-result.result)) c.deref.ensures.value)
+    (record { sorts = c.in_ok-sorts.sorts; sort = c.sort.result; cases = c.in_ok-cases.cases }) k
+    (c.in_ok-cases.ensures ∙ ap (λ (ss : List Sort). cases_of ss
+    (term_at c.args.spec.now.terms c.first-result.result)) c.deref.ensures.value)

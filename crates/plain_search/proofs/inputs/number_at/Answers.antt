@@ -36,20 +36,20 @@ with_digit-number-requires-clause-width c =
     let some = c.loop-k-test.true in
     let within = c.loop-k.auto.k in
     subst (λ n. n ≤ 16) (sym c.width.ensures)
-        (width-few c.args.sorts.now _ _ (omega (arith, long, some, within)) c.requires.few)
+    (width-few c.args.sorts.now _ _ (omega (arith, long, some, within)) c.requires.few)
 
 pub with_digit-number-requires-clause-fits : goal.with_digit-number-requires-clause-fits
 with_digit-number-requires-clause-fits c =
     number_step-fits c.args.sorts.now c.args.inputs.now c.args.places.now c.loop-k.k c.loop-k.number c.from.result
-        c.number_of-digit.result c.width.result _ _
-        (record { few = c.requires.few; sorted = c.requires.sorted }) c.requires.within (digit c)
+    c.number_of-digit.result c.width.result _ _
+    (record { few = c.requires.few; sorted = c.requires.sorted }) c.requires.within (digit c)
 
 pub loop-k-preserved : goal.loop-k-preserved
 loop-k-preserved c =
     c.with_digit-number.ensures
     ∙ number_step c.args.sorts.now c.args.inputs.now c.args.places.now c.loop-k.k c.loop-k.number c.from.result
-        c.number_of-digit.result c.width.result _ _
-        (record { few = c.requires.few; sorted = c.requires.sorted }) c.requires.within
+    c.number_of-digit.result c.width.result _ _
+    (record { few = c.requires.few; sorted = c.requires.sorted }) c.requires.within
     (record {
       some = c.loop-k-test.true;
       within = c.loop-k.auto.k;
@@ -67,7 +67,7 @@ returns-clause-number c =
 pub returns-clause-below : goal.returns-clause-below
 returns-clause-below c =
     let whole =
-        number_whole c.args.sorts.now c.args.inputs.now c.args.places.now c.loop-k.k c.loop-k.number c.loop-k-test.false
-        c.loop-k.invariant in
+    number_whole c.args.sorts.now c.args.inputs.now c.args.places.now c.loop-k.k c.loop-k.number c.loop-k-test.false
+    c.loop-k.invariant in
     subst (λ n. n < 2 ^ sum_by width_of c.args.sorts.now) (sym whole)
-        (inputs_number_lt c.args.sorts.now (map (input_at c.args.inputs.now) c.args.places.now) c.requires.sorted)
+    (inputs_number_lt c.args.sorts.now (map (input_at c.args.inputs.now) c.args.places.now) c.requires.sorted)

@@ -13,6 +13,6 @@ pub returns-in-Table : goal.returns-in-Table
 returns-in-Table c =
     let found = subst (IsFound c.args.terms.now c.args.sorts.now c.args.at) c.in-Table.is c.requires.found in
     table_agrees-is c.args.sorts.now
-        (term_at c.args.terms.now c.args.at) c.args.places.now c.args.cases.now c.as_slice.result.now
-        c.does_table_agree.result
+    (term_at c.args.terms.now c.args.at) c.args.places.now c.args.cases.now c.as_slice.result.now
+    c.does_table_agree.result
     (c.as_slice.ensures ∙ found.1) c.requires.sorted c.does_table_agree.ensures
