@@ -1,6 +1,6 @@
 -- A term over inputs that are no memory is none.
 use Rattle.std.proofs.Common.{◌≡◌, ℕ, Bool, true, false, cond, List, [], ◌∷◌, length, map, Option, Some, None, inl, inr}
-use Rattle.std.proofs.Common.{refl, sym, ap, subst, ◌∙◌}
+use Rattle.std.proofs.Common.{sym, ap, subst}
 use Rattle.std.proofs.Common.{slice_get, Contains}
 use Rattle.std.specs.Prelude.{option_and_then, ◌==◌}
 use Rattle.std.specs.Option.{option_map_or}
@@ -10,7 +10,7 @@ use Rattle.bv_terms.specs.declared.op.MakeFault.{MakeFault}
 use Rattle.bv_terms.specs.declared.op.MakeFault.TheVariants as fault
 use Rattle.bv_terms.specs.declared.value.Sort.{Sort}
 use Rattle.bv_terms.specs.declared.value.Sort.TheVariants as sort
-use Rattle.bv_terms.specs.Term.{Term, Operands, Apply}
+use Rattle.bv_terms.specs.Term.{Term, Apply}
 use Rattle.bv_terms.specs.Sorts.{arity, same_sort, refusal, sort_unless, op_sort, sort_of, sorts_of}
 use Rattle.bv_terms.proofs.TermLemmas.{same_sort-true}
 use Rattle.isel_spec.specs.File.{Goal, stays_in}

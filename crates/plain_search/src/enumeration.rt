@@ -154,7 +154,8 @@ fn add_agreeing(
     requires choices { choices.now ≡ tuples wanted.now.sorts.items args.now }
     requires room { length terms.now.nodes ≤ length room.old }
     ensures { OnOk result (rules.new.items ≡ rules.old.items
-        ++ map (operation_pattern op) (filter (term_agrees wanted.now.cases.items (term_at terms.now at)) choices.now)) }
+        ++ map (operation_pattern op)
+        (filter (term_agrees wanted.now.cases.items (term_at terms.now at)) choices.now)) }
 {
     for choice in choices {
         let places = choice.as_slice();

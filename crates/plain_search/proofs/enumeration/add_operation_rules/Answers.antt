@@ -1,4 +1,4 @@
-use Rattle.std.proofs.Common.{◌≡◌, ℕ, List, [], ◌∙◌, ◌++◌, ◌<◌, sym, ap, subst, map, filter, length, vec_len}
+use Rattle.std.proofs.Common.{◌≡◌, ℕ, List, [], ◌∙◌, ◌++◌, sym, ap, subst, map, filter, vec_len}
 use Rattle.std.proofs.lemmas.Bool.{eqb-true}
 use Rattle.std.proofs.lemmas.List.{append-nil, nil_from_length}
 use Rattle.std.proofs.lemmas.Result.{on_ok_weaker}

@@ -1,9 +1,9 @@
-use Rattle.std.proofs.Common.{◌≡◌, false, ◌<◌, ◌≤◌, arith, sym, subst, ◌∙◌, length, map, ℕ, ◌^◌, sum_by}
+use Rattle.std.proofs.Common.{false, ◌<◌, ◌≤◌, arith, sym, subst, ◌∙◌, length, map, ◌^◌, sum_by}
 use Rattle.bv_terms.specs.declared.value.Sort.TheVariants as sort
 use Rattle.bv_terms.specs.declared.value.Value.TheVariants as val
 use Rattle.bv_terms.specs.Sorts.{width_of}
 use Rattle.plain_search.specs.Cases.{input_at}
-use Rattle.plain_search.proofs.InputLemmas.{ArePicked, IsDigit, length-picked, number_from-end, number_step}
+use Rattle.plain_search.proofs.InputLemmas.{IsDigit, length-picked, number_from-end, number_step}
 use Rattle.plain_search.proofs.InputLemmas.{number_step-fits, number_whole, width-few, inputs_number_lt}
 use Rattle.plain_search.proofs.inputs.number_at.Goals as goal
 

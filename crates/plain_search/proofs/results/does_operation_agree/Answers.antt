@@ -1,4 +1,4 @@
-use Rattle.std.proofs.Common.{◌≡◌, ◌∙◌, ap, subst, length}
+use Rattle.std.proofs.Common.{◌∙◌, ap, subst, length}
 use Rattle.bv_terms.specs.Table.{term_at}
 use Rattle.plain_search.specs.Results.{IsFound}
 use Rattle.plain_search.proofs.ResultLemmas.{length-table_of, table_agrees-is}

@@ -1,6 +1,5 @@
-use Rattle.std.proofs.Common.{◌≡◌, ◌<◌, ◌∙◌, All, List, ℕ, length, map, sym, ap, subst, arith, false}
+use Rattle.std.proofs.Common.{◌<◌, ◌∙◌, All, List, ℕ, length, map, sym, ap, subst}
 use Rattle.bv_terms.specs.declared.value.Value.{Value}
-use Rattle.bv_terms.specs.declared.value.Value.TheVariants as val
 use Rattle.bv_terms.specs.Sorts.{HaveSorts}
 use Rattle.plain_search.specs.declared.cases.Case.{Case}
 use Rattle.plain_search.specs.Cases.{input_at, inputs_number, same_value}
