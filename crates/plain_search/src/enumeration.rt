@@ -11,13 +11,13 @@ ghost use Rattle.isel_spec.specs.Spec.{file};
 ghost use Rattle.pattern_core.specs.Library.{IsLibrary};
 ghost use Rattle.plain_search.specs.Enumeration.{IsSearchable, IsPlain};
 ghost use Rattle.plain_search.specs.Cases.{term_agrees};
-ghost use Rattle.plain_search.specs.Results.{IsFound};
+ghost use Rattle.plain_search.specs.Results.{IsEvaluator};
 ghost use Rattle.plain_search.specs.Candidates.{IsWanted, IsTried, tuples};
 ghost use Rattle.plain_search.specs.Candidates.{input_pattern, operation_pattern, input_rules, operation_rules};
 ghost use Rattle.plain_search.specs.Candidates.{rules_from};
 
 use crate::cases::{Case, all_cases, does_input_agree};
-use crate::results::{Found, does_operation_agree, found_for};
+use crate::results::{Evaluator, does_operation_agree, evaluator_for};
 use crate::tuples::{places_of, tuples_of};
 use bv_terms::{Sort, TermId, Terms, Value};
 use collections::Seq;
@@ -140,7 +140,7 @@ fn add_agreeing(
     alloc: Global,
     terms: &Terms,
     op: u16,
-    found: &Found,
+    evaluator: &Evaluator,
     args: &[Sort],
     at: TermId,
     wanted: &Wanted,
@@ -148,7 +148,7 @@ fn add_agreeing(
     room: &mut [Value],
     rules: &mut Vec<Pattern>,
 ) -> Result<(), AllocError>
-    requires found { IsFound terms.now args.now at found.now }
+    requires evaluator { IsEvaluator terms.now args.now at evaluator.now }
     requires stays { IsTrue (stays_in args.now (term_at terms.now at)) }
     requires tried { IsTried wanted.now }
     requires choices { choices.now ≡ tuples wanted.now.sorts.items args.now }
@@ -159,7 +159,7 @@ fn add_agreeing(
 {
     for choice in choices {
         let places = choice.as_slice();
-        if does_operation_agree(alloc, terms, found, args, at, &wanted.cases, places, room)? {
+        if does_operation_agree(alloc, terms, evaluator, args, at, &wanted.cases, places, room)? {
             rules.push(operation_rule(alloc, op, places)?)?;
         }
     }
@@ -193,9 +193,9 @@ fn add_operation_rules(
         return Ok(());
     }
     let terms = &spec.terms;
-    let found = found_for(alloc, terms, args, result, room)?;
+    let evaluator = evaluator_for(alloc, terms, args, result, room)?;
     add_agreeing(
-        alloc, terms, op as u16, &found, args, result, wanted, &choices, room, rules,
+        alloc, terms, op as u16, &evaluator, args, result, wanted, &choices, room, rules,
     )
 }
 

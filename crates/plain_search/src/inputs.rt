@@ -13,7 +13,7 @@ use std::alloc::{AllocError, Global};
 const MOST_TABLE_BITS: u32 = 16;
 
 /// Whether values of these sorts have at most 16 bits together.
-pub fn have_table(sorts: &[Sort]) -> bool
+pub fn have_few_bits(sorts: &[Sort]) -> bool
     ensures { IsTrue result ↔ (sum_by width_of sorts.now ≤ 16) }
 {
     let mut total: u32 = 0;

@@ -6,18 +6,18 @@ ghost use Rattle.bv_terms.specs.Sorts.{InputsFit, HaveSorts, width_of};
 ghost use Rattle.bv_terms.specs.Term.{value};
 ghost use Rattle.bv_terms.specs.Table.{term_at};
 ghost use Rattle.plain_search.specs.Cases.{inputs_numbered, input_at, table_of, term_agrees, table_agrees};
-ghost use Rattle.plain_search.specs.Results.{AreNodesOf, IsFound};
+ghost use Rattle.plain_search.specs.Results.{AreNodesOf, IsEvaluator};
 
 use crate::cases::{Case, is_same};
-use crate::inputs::{count_of, have_table, inputs_of, number_at, picked};
+use crate::inputs::{count_of, have_few_bits, inputs_of, number_at, picked};
 use bv_terms::{Env, Sort, TermId, Terms, Value};
 use collections::Seq;
 use std::alloc::{AllocError, Global};
 
-/// How the result of an operation is found: by the number of its arguments in a table, or by
+/// What gives the result of an operation: a table, by the number of the arguments, or what comes of
 /// evaluating the nodes below it.
 #[derive(Debug, Drop)]
-pub enum Found {
+pub enum Evaluator {
     Table(Seq<Value>),
     Nodes(Seq<TermId>),
 }
@@ -74,23 +74,23 @@ fn table_of(
 }
 
 /// How the result of an operation over arguments of these sorts is found.
-pub fn found_for(
+pub fn evaluator_for(
     alloc: Global,
     terms: &Terms,
     sorts: &[Sort],
     at: TermId,
     room: &mut [Value],
-) -> Result<Found, AllocError>
+) -> Result<Evaluator, AllocError>
     requires there { at.0 < length terms.now.nodes }
     requires inputs { (n : ℕ) → InputsFit (inputs_numbered sorts.now n) (term_at terms.now at) }
     requires room { length terms.now.nodes ≤ length room.old }
-    ensures { IfOk result (IsFound terms.now sorts.now at) }
+    ensures { IfOk result (IsEvaluator terms.now sorts.now at) }
 {
-    if !have_table(sorts) {
+    if !have_few_bits(sorts) {
         let nodes = nodes_of(alloc, terms, at)?;
-        return Ok(Found::Nodes(Seq::from_vec(nodes)));
+        return Ok(Evaluator::Nodes(Seq::from_vec(nodes)));
     }
-    Ok(Found::Table(table_of(alloc, terms, sorts, at, room)?))
+    Ok(Evaluator::Table(table_of(alloc, terms, sorts, at, room)?))
 }
 
 /// Whether what a table has for the inputs in these places is the goal's result in each case.
@@ -141,14 +141,14 @@ fn does_term_agree(
 pub fn does_operation_agree(
     alloc: Global,
     terms: &Terms,
-    found: &Found,
+    evaluator: &Evaluator,
     sorts: &[Sort],
     at: TermId,
     cases: &[Case],
     places: &[u8],
     room: &mut [Value],
 ) -> Result<bool, AllocError>
-    requires found { IsFound terms.now sorts.now at found.now }
+    requires evaluator { IsEvaluator terms.now sorts.now at evaluator.now }
     requires within { All (λ (c : Case). All (λ k. k < length c.inputs.values) places.now) cases.now }
     requires sorted { All (λ (c : Case). HaveSorts sorts.now (map (input_at c.inputs.values) places.now)) cases.now }
     requires inputs { All (λ (c : Case). InputsFit (map (input_at c.inputs.values) places.now) (term_at terms.now at))
@@ -156,9 +156,9 @@ pub fn does_operation_agree(
     requires room { length terms.now.nodes ≤ length room.old }
     ensures { IfOk result (λ agrees. agrees ≡ term_agrees cases.now (term_at terms.now at) places.now) }
 {
-    match found {
-        Found::Table(table) => Ok(does_table_agree(table.as_slice(), sorts, cases, places)),
-        Found::Nodes(nodes) => does_term_agree(
+    match evaluator {
+        Evaluator::Table(table) => Ok(does_table_agree(table.as_slice(), sorts, cases, places)),
+        Evaluator::Nodes(nodes) => does_term_agree(
             alloc,
             terms,
             nodes.as_slice(),

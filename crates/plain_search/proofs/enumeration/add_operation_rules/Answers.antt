@@ -55,16 +55,16 @@ returns-then-is_empty c =
     (rules ∙ ap (λ (xs : List (List ℕ)). map (operation_pattern c.args.op) (filter agree xs)) (sym are ∙ none))
     ∙ append-nil c.args.rules.now.items)
 
-pub found_for-requires-clause-there : goal.found_for-requires-clause-there
-found_for-requires-clause-there c =
+pub evaluator_for-requires-clause-there : goal.evaluator_for-requires-clause-there
+evaluator_for-requires-clause-there c =
     let k =
     subst (λ ss. IsOperationAt c.args.spec.now c.args.op ss c.first-result.result) (sym c.as_slice-args.ensures)
     (IsOperationAt-from_definition c.args.spec.now c.args.op _ _ c.first-result.result c.requires.plain
     c.op-definition.ensures.1 c.first-result.ensures) in
     k.there
 
-pub found_for-requires-clause-inputs : goal.found_for-requires-clause-inputs
-found_for-requires-clause-inputs c =
+pub evaluator_for-requires-clause-inputs : goal.evaluator_for-requires-clause-inputs
+evaluator_for-requires-clause-inputs c =
     let k =
     subst (λ ss. IsOperationAt c.args.spec.now c.args.op ss c.first-result.result) (sym c.as_slice-args.ensures)
     (IsOperationAt-from_definition c.args.spec.now c.args.op _ _ c.first-result.result c.requires.plain

@@ -1,6 +1,6 @@
 use Rattle.std.proofs.Common.{◌≡◌, ◌≤◌, ◌+◌, drop, sum_by}
 use Rattle.bv_terms.specs.Sorts.{width_of}
-use Rattle.plain_search.proofs.inputs.have_table.Given as goal
+use Rattle.plain_search.proofs.inputs.have_few_bits.Given as goal
 
 abbrev pub invariant-loop-sort : goal.invariant-loop-sort
 invariant-loop-sort l = record {
