@@ -1,8 +1,8 @@
 -- What is told of a source and of a sink, over the pieces of one file or one text.
-use Rattle.std.proofs.Common.{◌≡◌, ℕ, ◌+◌, ◌-◌, ◌<◌, ◌≤◌, List, ◌++◌, length, take, drop, Option, Some, None, option_map, Ok, IfSome, ap, ◌∙◌, sym, append_assoc, arith, length-append, length-drop}
+use Rattle.std.proofs.Common.{◌≡◌, ℕ, suc, ◌+◌, ◌-◌, ◌<◌, ◌≤◌, List, ◌++◌, length, take, drop, Option, Some, None, option_map, Ok, IfSome, ap, ◌∙◌, sym, append_assoc, arith, length-append, length-drop}
 use Rattle.std.proofs.Math.Seq.{take-add}
 use Rattle.std.proofs.lemmas.List.{take_all, length-take-le}
-use Rattle.isel_base.specs.Outside.{IsReadAt, IsFront, GotMore}
+use Rattle.isel_base.specs.Outside.{IsReadAt, IsFront, GotMore, ReadsOnly}
 
 -- the slice from n to the end
 pub rest_from : (bytes : List ℕ) (n : ℕ) → take (length bytes - n) (drop n bytes) ≡ drop n bytes
@@ -42,3 +42,8 @@ pub told_more : (E : Type 0) (told : Option (List ℕ)) (old buffer new : List �
 told_more E None old buffer new n place within some grown at_end read = tt
 told_more E (Some all) old buffer new n place within some grown at_end read =
     λ front. let more = got_more all old buffer n within some (rw (← at_end) read) front in rw grown more
+
+-- one more read of the name
+pub read_more : {S : Type 0} (leaves : S → List ℕ → S → Type 0) (name : List ℕ) (old mid new : S) → ReadsOnly leaves name old mid
+    → leaves mid name new → ReadsOnly leaves name old new
+read_more leaves name old mid new (n, reads) more = (suc n, (mid, reads, more))

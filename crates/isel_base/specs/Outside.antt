@@ -1,5 +1,6 @@
 -- What reads and writes do to the objects that are handed in, and the causes of their faults.
-use Rattle.std.specs.Prelude.{◌≡◌, ℕ, ◌+◌, ◌-◌, ◌^◌, ◌<◌, ◌≤◌, ◌↔◌, min, List, ◌++◌, length, take, drop, Option, option_map, Result, Ok, Err, IfOk}
+use Rattle.std.specs.Prelude.{◌≡◌, ℕ, zero, suc, ◌+◌, ◌-◌, ◌^◌, ◌<◌, ◌≤◌, ◌↔◌, min, List, ◌++◌, length}
+use Rattle.std.specs.Prelude.{take, drop, Option, option_map, Result, Ok, Err, IfOk}
 use Rattle.isel_base.specs.declared.traits.Failed.{Failed}
 
 -- A count of faults rose. One that stands at the greatest number of 64 bits counts as risen.
@@ -35,3 +36,13 @@ IsFront all bytes = bytes ≡ take (length bytes) all
 -- after one more read they are still, and where none came they are all
 abbrev pub GotMore : {E : Type 0} → List ℕ → List ℕ → Result ℕ E → List ℕ → Type 0
 GotMore all old result new = IsFront all old → IfOk result (λ n. IsFront all new × (n ≡ 0 → new ≡ all))
+
+module _ {S : Type 0} where
+  -- the new source is what this many reads of a name may leave of the old one
+  abbrev pub IsLeftBy : (S → List ℕ → S → Type 0) → List ℕ → ℕ → S → S → Type 0
+  IsLeftBy leaves name zero old new = new ≡ old
+  IsLeftBy leaves name (suc n) old new = (mid : S) × IsLeftBy leaves name n old mid × leaves mid name new
+
+  -- nothing but this name was read
+  abbrev pub ReadsOnly : (S → List ℕ → S → Type 0) → List ℕ → S → S → Type 0
+  ReadsOnly leaves name old new = (n : ℕ) × IsLeftBy leaves name n old new

@@ -1,8 +1,10 @@
 //! Files that are read and streams that are written, as they are handed in.
 //!
-//! Each object counts the faults that it met, and the count never falls. So a caller can say of its
-//! own fault that it comes only where that count rose during the call.
-
+//! - `traits`: `Files` and `Sink`, whose objects count their faults.
+//! - `reading`: `read_all`, all bytes of a file.
+//! - `writing`: `put_all`, all bytes of a text.
+//! - `fakes`: `MemFiles` and `MemSink`, in memory, for tests.
+//! - `real`: `RealFiles` and `RealOut`, the files and streams of the system, which are trusted.
 #![tactic(auto)]
 
 mod fakes;
@@ -16,3 +18,6 @@ pub use reading::{FILE_LIMIT, ReadAllFault, read_all};
 pub use real::{RealFiles, RealOut};
 pub use traits::{Failed, Files, Sink};
 pub use writing::put_all;
+
+#[cfg(test)]
+mod tests;

@@ -1,5 +1,8 @@
-ghost use Rattle.std.specs.Prelude.{◌≡◌, ◌≤◌, ◌<◌, ◌+◌, ◌^◌, ℕ, List, IfOk, IfSome, IsErrOf, length};
-ghost use Rattle.isel_base.specs.Outside.{Rose, GotMore};
+//! A file's bytes, read to the end in pieces. At the head of the loop what was got is the front of the
+//! file, and nothing but its name was read.
+
+ghost use Rattle.std.specs.Prelude.{◌≡◌, ◌≤◌, ◌<◌, ◌+◌, ◌^◌, ℕ, List, IfOk, IfSome, IsErrOf, IsTrue, length};
+ghost use Rattle.isel_base.specs.Outside.{Rose, GotMore, ReadsOnly};
 
 use crate::traits::Files;
 use std::alloc::{AllocError, Global};
@@ -11,7 +14,7 @@ pub enum ReadAllFault {
     ReadFault,
     /// The file has more than 2^20 bytes.
     TooLong,
-    /// Want of memory.
+    /// Memory ran out.
     NoMemory,
 }
 
@@ -54,6 +57,10 @@ fn read_next<F: Files>(
     ensures cause { IsErrOf result ReadAllFault.ReadFault → Rose (F.faults files.old name.now) (F.faults files.new name.now) }
     ensures counts { (other : List ℕ) → F.faults files.old other ≤ F.faults files.new other }
     ensures same { (other : List ℕ) → F.bytes files.new other ≡ F.bytes files.old other }
+    ensures leaves { F.read_leaves files.old name.now files.new }
+    ensures steady { IsTrue (F.never_fails files.old name.now) → ¬ IsErrOf result ReadAllFault.ReadFault }
+    ensures stays { (other : List ℕ) → IsTrue (F.never_fails files.old other) →
+        IsTrue (F.never_fails files.new other) }
 {
     let place = got.len() as u64;
     let Ok(count) = files.read(name, place, chunk) else {
@@ -71,6 +78,12 @@ pub fn read_all<F: Files>(alloc: Global, files: &mut F, name: &str) -> Result<Ve
     ensures cause { IsErrOf result ReadAllFault.ReadFault → Rose (F.faults files.old name.now) (F.faults files.new name.now) }
     ensures counts { (other : List ℕ) → F.faults files.old other ≤ F.faults files.new other }
     ensures same { (other : List ℕ) → F.bytes files.new other ≡ F.bytes files.old other }
+
+    // Nothing but this name was read, and a name that never fails gives no `ReadFault`.
+    ensures only { ReadsOnly F.read_leaves name.now files.old files.new }
+    ensures steady { IsTrue (F.never_fails files.old name.now) → ¬ IsErrOf result ReadAllFault.ReadFault }
+    ensures stays { (other : List ℕ) → IsTrue (F.never_fails files.old other) →
+        IsTrue (F.never_fails files.new other) }
 {
     let mut chunk = buffer(alloc, CHUNK)?;
     let mut got = Vec::new(alloc);

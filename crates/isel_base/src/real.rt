@@ -1,4 +1,7 @@
-ghost use Rattle.std.specs.Prelude.{None, IfOk, ◌≤◌, length};
+//! The files and streams of the system. They are trusted, and tell no bytes; each counts its failures,
+//! and a count that stands at its last value stays there.
+
+ghost use Rattle.std.specs.Prelude.{None, IfOk, ◌≤◌, length, false};
 
 use crate::traits::{Failed, Files, Sink};
 use std::io::{Read, Seek, SeekFrom, Write};
@@ -9,7 +12,7 @@ use std::{fs, io};
 #[derive(Drop)]
 pub struct RealFiles<'a, R> {
     rt: &'a R,
-    faults: u64,
+    pub(crate) faults: u64,
 }
 
 impl<'a, R: std::rt::Files> RealFiles<'a, R> {
@@ -33,6 +36,10 @@ impl<R: std::rt::Files> Files for RealFiles<'_, R> {
 
     ghost bytes = { λ _ _. None };
 
+    ghost never_fails = { λ _ _. false };
+
+    ghost read_leaves = { λ _ _ _. Unit {0} };
+
     fn read(&mut self, name: &str, place: u64, into: &mut [u8]) -> Result<usize, Failed> {
         match read_at(self.rt, name, place, into) {
             Ok(count) => Ok(count),
@@ -48,7 +55,7 @@ impl<R: std::rt::Files> Files for RealFiles<'_, R> {
 #[derive(Drop)]
 pub struct RealOut<W> {
     to: W,
-    faults: u64,
+    pub(crate) faults: u64,
 }
 
 impl<W: Write> RealOut<W> {

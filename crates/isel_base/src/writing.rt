@@ -1,3 +1,6 @@
+//! All bytes of a text, written in as many pieces as the sink takes. At the head of the loop the first
+//! `done` bytes were appended.
+
 ghost use Rattle.std.specs.Prelude.{◌≡◌, ◌≤◌, ◌++◌, OnOk, OnErr, option_map};
 ghost use Rattle.isel_base.specs.Outside.{Rose, HasPrefix};
 

@@ -79,12 +79,12 @@ no_cut (suc (suc (suc (suc (suc (suc (suc status))))))) name n less e =
     let none = no_line (suc (suc (suc (suc (suc (suc (suc status))))))) name (omega arith) in omega (arith, less, ap length none)
 
 -- with status 5 the whole line was not written
-not_cut : (name before : List ℕ) (old new : Option (List ℕ)) → old ≡ Some before → new ≡ Some (before ++ note_of 3 name)
-    → ((new ≡ old) ⊎ CutsNote name old new) → ⊥
-not_cut name before old new o w (inl same) =
+not_cut : (F R : Type 0) (name before : List ℕ) (old new : Option (List ℕ)) → old ≡ Some before
+    → new ≡ Some (before ++ note_of 3 name) → ((new ≡ old) ⊎ CutsNote F R name old new) → ⊥
+not_cut F R name before old new o w (inl same) =
     let none : [] ≡ note_of 3 name = appended before [] (note_of 3 name) old old o (nothing before old o) (sym same ∙ w) in
     omega (arith, ap length none, length-append name (line (codes ": Outside")))
-not_cut name before old new o w (inr (status, (n, less, e))) =
+not_cut F R name before old new o w (inr (status, why, (n, less, e))) =
     no_cut status name n less (appended before (take n (note_of status name)) (note_of 3 name) old new o e w)
 
 -- the refusals of status 4 and 6 have other lines
@@ -96,27 +96,27 @@ six_differs : (name : List ℕ) → note_of 6 name ≡ note_of 3 name → ⊥
 six_differs name e = omega (arith, ap length e, length-append name (line (codes ": Outside")))
 
 -- the line of a refused file was written, so the status is the one of a refused file
-is_refused : (result : ℕ) (name before : List ℕ) (old new : Option (List ℕ)) → IsCommandStatus result → result ≢ 0 → old ≡ Some before
-    → (result ≢ 5 → new ≡ with_text (note_of result name) old) → (result ≡ 5 → (new ≡ old) ⊎ CutsNote name old new)
+is_refused : (F R : Type 0) (result : ℕ) (name before : List ℕ) (old new : Option (List ℕ)) → IsCommandStatus result → result ≢ 0 → old ≡ Some before
+    → (result ≢ 5 → new ≡ with_text (note_of result name) old) → (result ≡ 5 → (new ≡ old) ⊎ CutsNote F R name old new)
     → new ≡ Some (before ++ note_of 3 name) → result ≡ 3
-is_refused result name before old new (inl none) done o whole cut w = absurd (done none)
-is_refused result name before old new (inr (inl three)) done o whole cut w = three
-is_refused result name before old new (inr (inr (inl four))) done o whole cut w =
+is_refused F R result name before old new (inl none) done o whole cut w = absurd (done none)
+is_refused F R result name before old new (inr (inl three)) done o whole cut w = three
+is_refused F R result name before old new (inr (inr (inl four))) done o whole cut w =
     let P : ℕ → Type 0 = λ r. new ≡ with_text (note_of r name) old in
     absurd (four_differs name (appended before (note_of 4 name) (note_of 3 name) old new o (subst P four (whole (λ e. omega (arith, four, e)))) w))
-is_refused result name before old new (inr (inr (inr (inl five)))) done o whole cut w = absurd (not_cut name before old new o w (cut five))
-is_refused result name before old new (inr (inr (inr (inr six)))) done o whole cut w =
+is_refused F R result name before old new (inr (inr (inr (inl five)))) done o whole cut w = absurd (not_cut F R name before old new o w (cut five))
+is_refused F R result name before old new (inr (inr (inr (inr six)))) done o whole cut w =
     let P : ℕ → Type 0 = λ r. new ≡ with_text (note_of r name) old in
     absurd (six_differs name (appended before (note_of 6 name) (note_of 3 name) old new o (subst P six (whole (λ e. omega (arith, six, e)))) w))
 
 -- the status of a refused file comes exactly where its reason holds and its line was written
-pub refused_exactly : (N : Type 0) (result : ℕ) (name before : List ℕ) (old new : Option (List ℕ)) → IsCommandStatus result
+pub refused_exactly : (N F R : Type 0) (result : ℕ) (name before : List ℕ) (old new : Option (List ℕ)) → IsCommandStatus result
     → (N → result ≢ 0) → (result ≡ 3 → N) → (result ≢ 5 → new ≡ with_text (note_of result name) old)
-    → (result ≡ 5 → (new ≡ old) ⊎ CutsNote name old new) → old ≡ Some before → ((result ≡ 3) ↔ (N × (new ≡ Some (before ++ note_of 3 name))))
-refused_exactly N result name before old new status none why whole cut o =
+    → (result ≡ 5 → (new ≡ old) ⊎ CutsNote F R name old new) → old ≡ Some before → ((result ≡ 3) ↔ (N × (new ≡ Some (before ++ note_of 3 name))))
+refused_exactly N F R result name before old new status none why whole cut o =
     let P : ℕ → Type 0 = λ r. new ≡ with_text (note_of r name) old in (
       (λ three. (why three, with_before before (note_of 3 name) old new o (subst P three (whole (λ five. omega (arith, three, five)))))),
-      (λ p. is_refused result name before old new status (none p.0) o whole cut p.1),
+      (λ p. is_refused F R result name before old new status (none p.0) o whole cut p.1),
     )
 
 -- the same for a line that was to be written, come what may
@@ -131,3 +131,16 @@ told_exactly N result status text before old new reason other (inr five) whole c
 -- a command never has the status of words without a form
 pub never_two : (N X : Type 0) (result : ℕ) → IsCommandStatus result → (N → ⊥) → ((result ≡ 2) ↔ (N × X))
 never_two N X result status none = ((λ two. absurd (omega (arith, status, two))), (λ p. absurd (none p.0)))
+
+-- a run that was not refused, and in which nothing failed, did its work, unless memory ran out
+pub complete_from : (N A B C : Type 0) (result : ℕ) → IsCommandStatus result → (result ≡ 3 → N) → (result ≡ 4 → A)
+    → (result ≡ 5 → B ⊎ C) → (N → ⊥) → (A → ⊥) → (B → ⊥) → (C → ⊥) → (result ≡ 0) ⊎ (result ≡ 6)
+complete_from N A B C result (inl done) three four five n a b c = inl done
+complete_from N A B C result (inr (inl is)) three four five n a b c = absurd (n (three is))
+complete_from N A B C result (inr (inr (inl is))) three four five n a b c = absurd (a (four is))
+complete_from N A B C result (inr (inr (inr (inl is)))) three four five n a b c = by (five is)
+  where
+    by : B ⊎ C → (result ≡ 0) ⊎ (result ≡ 6)
+    by (inl x) = absurd (b x)
+    by (inr x) = absurd (c x)
+complete_from N A B C result (inr (inr (inr (inr six)))) three four five n a b c = inr six

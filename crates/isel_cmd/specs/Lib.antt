@@ -1,4 +1,4 @@
 pub mod Words
 pub mod Command
 pub mod Program
-pub mod Refusal
+pub mod Status

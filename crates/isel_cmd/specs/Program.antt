@@ -1,5 +1,5 @@
 -- What a run of the program does, by its status.
-use Rattle.std.specs.Prelude.{◌≡◌, ℕ, List, [], ◌∷◌, ◌++◌, Option, option_map, if◌then◌else◌, ◌==◌, ◌⊎◌, codes}
+use Rattle.std.specs.Prelude.{◌≡◌, ℕ, List, [], ◌∷◌, ◌++◌, Option, option_map, if◌then◌else◌, ◌==◌, ◌⊎◌, codes, IfSome}
 use Rattle.isel_spec.specs.File.{File, Goal}
 use Rattle.isel_spec.specs.Form.{IsFirstFile}
 use Rattle.pattern_core.specs.declared.pattern.GoalAnswer.{GoalAnswer}
@@ -54,10 +54,19 @@ WritesLibrary bytes bound old new = (text : List ℕ) × IsLibraryOf bytes bound
 abbrev pub WritesAtMostPart : List ℕ → ℕ → Option (List ℕ) → Option (List ℕ) → Type 0
 WritesAtMostPart bytes bound old new = (new ≡ old) ⊎ ((text : List ℕ) × IsLibraryOf bytes bound text × HasPrefix old text new)
 
--- a part of a refusal's line, and not all of it, was appended to a sink
-abbrev pub CutsNote : List ℕ → Option (List ℕ) → Option (List ℕ) → Type 0
-CutsNote name old new = (status : ℕ) × HasPrefix old (note_of status name) new
+-- why a refusal's line is written: the bytes are no file, the read failed, or memory ran out, which is free
+abbrev pub IsRefusalCause : Type 0 → Type 0 → ℕ → Type 0
+IsRefusalCause no_file read_failed status = ((status ≡ 3) × no_file) ⊎ ((status ≡ 4) × read_failed) ⊎ (status ≡ 6)
 
--- the statuses of a command: done, refused file, failed read, failed write, want of memory
+-- a part of the line of a refusal that has its cause, and not all of it, was appended to a sink
+abbrev pub CutsNote : Type 0 → Type 0 → List ℕ → Option (List ℕ) → Option (List ℕ) → Type 0
+CutsNote no_file read_failed name old new =
+    (status : ℕ) × IsRefusalCause no_file read_failed status × HasPrefix old (note_of status name) new
+
+-- the bytes of a name, where they are told, are no file of the small form
+abbrev pub IsToldNoFile : Option (List ℕ) → Type 0
+IsToldNoFile told = IfSome told IsNoFile
+
+-- the statuses of a command: done, refused file, failed read, failed write, out of memory
 abbrev pub IsCommandStatus : ℕ → Type 0
 IsCommandStatus status = (status ≡ 0) ⊎ (status ≡ 3) ⊎ (status ≡ 4) ⊎ (status ≡ 5) ⊎ (status ≡ 6)

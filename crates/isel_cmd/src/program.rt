@@ -1,18 +1,23 @@
-ghost use Rattle.std.specs.Prelude.{◌≡◌, ◌≢◌, ◌≤◌, ◌∷◌, ◌++◌, [], ℕ, List, Some, IfOk, IsErrOf, map, ◌⊎◌, ◌↔◌};
-ghost use Rattle.isel_spec.specs.File.{Goal};
+//! The call that does all that the program does, and the steps that it takes: read, search, write.
+//!
+//! Nothing is written to `out` before the work is done, and a refusal is told on `notes` alone.
+
+ghost use Rattle.std.specs.Prelude.{◌≡◌, ◌≢◌, ◌≤◌, ◌∷◌, ◌++◌, [], ℕ, List, Some, IfOk, IsErrOf, IsTrue, map, ◌⊎◌, ◌↔◌};
+ghost use Rattle.isel_spec.specs.File.{File, Goal};
 ghost use Rattle.isel_spec.specs.Spec.{file};
 ghost use Rattle.isel_spec.specs.Form.{IsFirstFile};
 ghost use Rattle.pattern_core.specs.Library.{IsAnswer};
 ghost use Rattle.std.specs.String.{string_bytes};
-ghost use Rattle.isel_base.specs.Outside.{Rose, HasPrefix};
+ghost use Rattle.isel_base.specs.Outside.{Rose, HasPrefix, ReadsOnly};
 ghost use Rattle.isel_cmd.specs.Words.{IsSynth, HasNoForm};
-ghost use Rattle.isel_cmd.specs.Refusal.{refused_status};
-ghost use Rattle.isel_cmd.specs.Program.{IsNoFile, IsLibraryText, IsLibraryOf, HasOneGoal, WritesLibrary, WritesAtMostPart, CutsNote, IsCommandStatus, with_text, note_of};
+ghost use Rattle.isel_cmd.specs.Status.{number_of, refused_status};
+ghost use Rattle.isel_cmd.specs.Program.{IsNoFile, IsLibraryText, IsLibraryOf, HasOneGoal, WritesLibrary, WritesAtMostPart, CutsNote, IsToldNoFile, IsCommandStatus, with_text, note_of};
 
+use crate::status::Status;
 use crate::words::parse;
+use collections::Seq;
 use isel_base::{Files, ReadAllFault, Sink, put_all, read_all};
 use isel_spec::{FirstFault, Spec, read_first};
-use collections::Seq;
 use pattern_core::GoalAnswer;
 use pattern_text::write_library;
 use plain_search::search;
@@ -73,6 +78,12 @@ fn spec_of<F: Files>(alloc: Global, files: &mut F, name: &str) -> Result<Spec, R
     ensures one_goal { IfOk result (λ spec. HasOneGoal (file spec)) }
     ensures outside { (bytes : List ℕ) → F.bytes files.old name.now ≡ Some bytes → IsErrOf result Refusal.Outside → IsNoFile bytes }
     ensures cause { IsErrOf result Refusal.ReadFault → Rose (F.faults files.old name.now) (F.faults files.new name.now) }
+    ensures only { ReadsOnly F.read_leaves name.now files.old files.new }
+    ensures steady { IsTrue (F.never_fails files.old name.now) → ¬ IsErrOf result Refusal.ReadFault }
+    ensures counts { (other : List ℕ) → F.faults files.old other ≤ F.faults files.new other }
+    ensures same { (other : List ℕ) → F.bytes files.new other ≡ F.bytes files.old other }
+    ensures stays { (other : List ℕ) → IsTrue (F.never_fails files.old other) →
+        IsTrue (F.never_fails files.new other) }
 {
     let bytes = match read_all(alloc, files, name) {
         Ok(bytes) => bytes,
@@ -93,6 +104,12 @@ fn library<F: Files>(alloc: Global, files: &mut F, name: &str, bound: u8) -> Res
     ensures text { (bytes : List ℕ) → F.bytes files.old name.now ≡ Some bytes → IfOk result (λ text. IsLibraryOf bytes bound (string_bytes text)) }
     ensures outside { (bytes : List ℕ) → F.bytes files.old name.now ≡ Some bytes → IsErrOf result Refusal.Outside → IsNoFile bytes }
     ensures cause { IsErrOf result Refusal.ReadFault → Rose (F.faults files.old name.now) (F.faults files.new name.now) }
+    ensures only { ReadsOnly F.read_leaves name.now files.old files.new }
+    ensures steady { IsTrue (F.never_fails files.old name.now) → ¬ IsErrOf result Refusal.ReadFault }
+    ensures counts { (other : List ℕ) → F.faults files.old other ≤ F.faults files.new other }
+    ensures same { (other : List ℕ) → F.bytes files.new other ≡ F.bytes files.old other }
+    ensures stays { (other : List ℕ) → IsTrue (F.never_fails files.old other) →
+        IsTrue (F.never_fails files.new other) }
 {
     let spec = match spec_of(alloc, files, name) {
         Ok(spec) => spec,
@@ -104,28 +121,29 @@ fn library<F: Files>(alloc: Global, files: &mut F, name: &str, bound: u8) -> Res
     }
 }
 
-/// Writes a line to `notes` and answers a status; 5 where that fails.
-fn tell<E: Sink>(notes: &mut E, text: &[u8], status: u8) -> u8
-    requires { status ≢ 5 }
-    ensures status { (result ≡ status) ⊎ (result ≡ 5) }
-    ensures told { result ≢ 5 → E.written notes.new ≡ with_text text.now (E.written notes.old) }
-    ensures cut { result ≡ 5 → HasPrefix (E.written notes.old) text.now (E.written notes.new) }
-    ensures cause { result ≡ 5 → Rose (E.faults notes.old) (E.faults notes.new) }
+/// Writes a line to `notes` and answers a status; `WriteFailed` where that fails.
+fn tell<E: Sink>(notes: &mut E, text: &[u8], status: Status) -> Status
+    requires { number_of status ≢ 5 }
+    ensures status { (number_of result ≡ number_of status) ⊎ (number_of result ≡ 5) }
+    ensures count { E.faults notes.old ≤ E.faults notes.new }
+    ensures told { number_of result ≢ 5 → E.written notes.new ≡ with_text text.now (E.written notes.old) }
+    ensures cut { number_of result ≡ 5 → HasPrefix (E.written notes.old) text.now (E.written notes.new) }
+    ensures cause { number_of result ≡ 5 → Rose (E.faults notes.old) (E.faults notes.new) }
 {
     match put_all(notes, text) {
         Ok(()) => status,
-        Err(_) => 5,
+        Err(_) => Status::WriteFailed,
     }
 }
 
 /// The status of a refused run.
-fn status_of(refusal: Refusal) -> u8
-    ensures { result ≡ refused_status refusal }
+fn status_of(refusal: Refusal) -> Status
+    ensures { number_of result ≡ refused_status refusal }
 {
     match refusal {
-        Refusal::Outside => 3,
-        Refusal::ReadFault => 4,
-        Refusal::NoMemory => 6,
+        Refusal::Outside => Status::Refused,
+        Refusal::ReadFault => Status::ReadFailed,
+        Refusal::NoMemory => Status::NoMemory,
     }
 }
 
@@ -141,28 +159,33 @@ fn line_of(alloc: Global, name: &str, refusal: Refusal) -> Result<String, AllocE
 }
 
 /// Writes the line of a refusal to `notes`.
-fn refuse<E: Sink>(alloc: Global, notes: &mut E, name: &str, refusal: Refusal) -> u8
-    ensures status { (result ≡ refused_status refusal) ⊎ (result ≡ 5) ⊎ (result ≡ 6) }
-    ensures told { result ≢ 5 → E.written notes.new ≡ with_text (note_of result name.now) (E.written notes.old) }
-    ensures cut { result ≡ 5 → CutsNote name.now (E.written notes.old) (E.written notes.new) }
-    ensures cause { result ≡ 5 → Rose (E.faults notes.old) (E.faults notes.new) }
+fn refuse<E: Sink>(alloc: Global, notes: &mut E, name: &str, refusal: Refusal) -> Status
+    ensures status { (number_of result ≡ refused_status refusal) ⊎ (number_of result ≡ 5) ⊎ (number_of result ≡ 6) }
+    ensures told { number_of result ≢ 5 →
+        E.written notes.new ≡ with_text (note_of (number_of result) name.now) (E.written notes.old) }
+    ensures cut { number_of result ≡ 5 →
+        HasPrefix (E.written notes.old) (note_of (refused_status refusal) name.now) (E.written notes.new)
+        ⊎ HasPrefix (E.written notes.old) (note_of 6 name.now) (E.written notes.new) }
+    ensures count { E.faults notes.old ≤ E.faults notes.new }
+    ensures cause { number_of result ≡ 5 → Rose (E.faults notes.old) (E.faults notes.new) }
 {
     match line_of(alloc, name, refusal) {
         Ok(line) => tell(notes, line.as_bytes(), status_of(refusal)),
-        Err(_) => tell(notes, b"memory\n", 6),
+        Err(_) => tell(notes, b"memory\n", Status::NoMemory),
     }
 }
 
-/// Writes a text to `out` and answers 0; 5 where that fails.
-fn deliver<S: Sink>(out: &mut S, text: &str) -> u8
-    ensures status { (result ≡ 0) ⊎ (result ≡ 5) }
-    ensures done { result ≡ 0 → S.written out.new ≡ with_text text.now (S.written out.old) }
-    ensures cut { result ≡ 5 → HasPrefix (S.written out.old) text.now (S.written out.new) }
-    ensures cause { result ≡ 5 → Rose (S.faults out.old) (S.faults out.new) }
+/// Writes a text to `out`.
+fn deliver<S: Sink>(out: &mut S, text: &str) -> Status
+    ensures status { (number_of result ≡ 0) ⊎ (number_of result ≡ 5) }
+    ensures done { number_of result ≡ 0 → S.written out.new ≡ with_text text.now (S.written out.old) }
+    ensures cut { number_of result ≡ 5 → HasPrefix (S.written out.old) text.now (S.written out.new) }
+    ensures cause { number_of result ≡ 5 → Rose (S.faults out.old) (S.faults out.new) }
+    ensures count { S.faults out.old ≤ S.faults out.new }
 {
     match put_all(out, text.as_bytes()) {
-        Ok(()) => 0,
-        Err(_) => 5,
+        Ok(()) => Status::Done,
+        Err(_) => Status::WriteFailed,
     }
 }
 
@@ -174,24 +197,34 @@ fn synth<F: Files, S: Sink, E: Sink>(
     notes: &mut E,
     name: &str,
     bound: u8,
-) -> u8
+) -> Status
     requires { bound ≤ 1 }
-    ensures status { IsCommandStatus result }
-    ensures headline { (bytes : List ℕ) → F.bytes files.old name.now ≡ Some bytes → result ≡ 0 →
+    ensures status { IsCommandStatus (number_of result) }
+    ensures headline { (bytes : List ℕ) → F.bytes files.old name.now ≡ Some bytes → number_of result ≡ 0 →
         WritesLibrary bytes bound (S.written out.old) (S.written out.new) }
-    ensures refused { (bytes : List ℕ) → F.bytes files.old name.now ≡ Some bytes → result ≡ 3 → IsNoFile bytes }
-    ensures read_fault { result ≡ 4 → Rose (F.faults files.old name.now) (F.faults files.new name.now) }
-    ensures write_fault { result ≡ 5 → Rose (S.faults out.old) (S.faults out.new) ⊎ Rose (E.faults notes.old) (E.faults notes.new) }
-    ensures line { result ≢ 5 → E.written notes.new ≡ with_text (note_of result name.now) (E.written notes.old) }
-    ensures untouched { result ≢ 0 → result ≢ 5 → S.written out.new ≡ S.written out.old }
-    ensures cut { (bytes : List ℕ) → F.bytes files.old name.now ≡ Some bytes → result ≡ 5 →
+    ensures refused { (bytes : List ℕ) → F.bytes files.old name.now ≡ Some bytes → number_of result ≡ 3 → IsNoFile bytes }
+    ensures read_fault { number_of result ≡ 4 → Rose (F.faults files.old name.now) (F.faults files.new name.now) }
+    ensures write_fault { number_of result ≡ 5 → Rose (S.faults out.old) (S.faults out.new) ⊎ Rose (E.faults notes.old) (E.faults notes.new) }
+    ensures line { number_of result ≢ 5 → E.written notes.new ≡ with_text (note_of (number_of result) name.now) (E.written notes.old) }
+    ensures untouched { number_of result ≢ 0 → number_of result ≢ 5 → S.written out.new ≡ S.written out.old }
+    ensures cut { (bytes : List ℕ) → F.bytes files.old name.now ≡ Some bytes → number_of result ≡ 5 →
         WritesAtMostPart bytes bound (S.written out.old) (S.written out.new) }
-    ensures cut_line { result ≡ 5 → (E.written notes.new ≡ E.written notes.old) ⊎ CutsNote name.now (E.written notes.old) (E.written notes.new) }
-    ensures one_fails { result ≡ 5 → ((S.written out.new ≡ S.written out.old) × Rose (E.faults notes.old) (E.faults notes.new)) ⊎
+    ensures cut_line { number_of result ≡ 5 → (E.written notes.new ≡ E.written notes.old) ⊎
+        CutsNote (IsToldNoFile (F.bytes files.old name.now)) (Rose (F.faults files.old name.now) (F.faults files.new name.now))
+        name.now (E.written notes.old) (E.written notes.new) }
+    ensures one_fails { number_of result ≡ 5 → ((S.written out.new ≡ S.written out.old) × Rose (E.faults notes.old) (E.faults notes.new)) ⊎
         ((E.written notes.new ≡ E.written notes.old) × Rose (S.faults out.old) (S.faults out.new)) }
-    ensures out_left { result ≢ 0 → result ≢ 5 → out.new ≡ out.old }
-    ensures notes_left { result ≡ 0 → notes.new ≡ notes.old }
-    ensures one_left { result ≡ 5 → (out.new ≡ out.old) ⊎ (notes.new ≡ notes.old) }
+    ensures out_left { number_of result ≢ 0 → number_of result ≢ 5 → out.new ≡ out.old }
+    ensures only { ReadsOnly F.read_leaves name.now files.old files.new }
+    ensures steady { IsTrue (F.never_fails files.old name.now) → number_of result ≢ 4 }
+    ensures files_count { (other : List ℕ) → F.faults files.old other ≤ F.faults files.new other }
+    ensures files_same { (other : List ℕ) → F.bytes files.new other ≡ F.bytes files.old other }
+    ensures files_stay { (other : List ℕ) → IsTrue (F.never_fails files.old other) →
+        IsTrue (F.never_fails files.new other) }
+    ensures out_count { S.faults out.old ≤ S.faults out.new }
+    ensures notes_count { E.faults notes.old ≤ E.faults notes.new }
+    ensures notes_left { number_of result ≡ 0 → notes.new ≡ notes.old }
+    ensures one_left { number_of result ≡ 5 → (out.new ≡ out.old) ⊎ (notes.new ≡ notes.old) }
 {
     match library(alloc, files, name, bound) {
         Ok(text) => deliver(out, text.as_str()),
@@ -249,20 +282,41 @@ pub fn run_here<F: Files, S: Sink, E: Sink>(
         ((E.written notes.new ≡ E.written notes.old) × Rose (S.faults out.old) (S.faults out.new)) }
 
     // What is written to `notes`: nothing with status 0, else the line of the status; with status 5 a
-    // part of a line, or nothing.
+    // part of a line whose cause holds, or nothing.
     ensures no_form_line { result ≡ 2 → E.written notes.new ≡ with_text (note_of 2 []) (E.written notes.old) }
     ensures line { (name : List ℕ) (bound : ℕ) → IsSynth (map string_bytes words.now) name bound → result ≢ 5 →
         E.written notes.new ≡ with_text (note_of result name) (E.written notes.old) }
     ensures cut_no_form_line { HasNoForm (map string_bytes words.now) → result ≡ 5 →
         HasPrefix (E.written notes.old) (note_of 2 []) (E.written notes.new) }
     ensures cut_line { (name : List ℕ) (bound : ℕ) → IsSynth (map string_bytes words.now) name bound → result ≡ 5 →
-        (E.written notes.new ≡ E.written notes.old) ⊎ CutsNote name (E.written notes.old) (E.written notes.new) }
+        (E.written notes.new ≡ E.written notes.old) ⊎
+        CutsNote (IsToldNoFile (F.bytes files.old name)) (Rose (F.faults files.old name) (F.faults files.new name))
+        name (E.written notes.old) (E.written notes.new) }
 
     // Nothing is written to `out` before the work is done, and a part of the text where a write fails.
     ensures untouched { result ≢ 0 → result ≢ 5 → S.written out.new ≡ S.written out.old }
     ensures no_form_untouched { HasNoForm (map string_bytes words.now) → S.written out.new ≡ S.written out.old }
     ensures cut { (name bytes : List ℕ) (bound : ℕ) → IsSynth (map string_bytes words.now) name bound →
         F.bytes files.old name ≡ Some bytes → result ≡ 5 → WritesAtMostPart bytes bound (S.written out.old) (S.written out.new) }
+
+    // No file but the named one is read. What the source tells stays, and counts never fall.
+    ensures reads_only { (name : List ℕ) (bound : ℕ) → IsSynth (map string_bytes words.now) name bound →
+        ReadsOnly F.read_leaves name files.old files.new }
+    ensures files_count { (other : List ℕ) → F.faults files.old other ≤ F.faults files.new other }
+    ensures files_same { (other : List ℕ) → F.bytes files.new other ≡ F.bytes files.old other }
+    ensures files_stay { (other : List ℕ) → IsTrue (F.never_fails files.old other) →
+        IsTrue (F.never_fails files.new other) }
+    ensures out_count { S.faults out.old ≤ S.faults out.new }
+    ensures notes_count { E.faults notes.old ≤ E.faults notes.new }
+
+    // Where the bytes are a file and no count rose, the work is done, unless memory ran out. A name that
+    // never fails is read.
+    ensures complete { (name bytes : List ℕ) (bound : ℕ) (f : File) → IsSynth (map string_bytes words.now) name bound →
+        F.bytes files.old name ≡ Some bytes → IsFirstFile bytes f →
+        ¬ Rose (F.faults files.old name) (F.faults files.new name) → ¬ Rose (S.faults out.old) (S.faults out.new) →
+        ¬ Rose (E.faults notes.old) (E.faults notes.new) → (result ≡ 0) ⊎ (result ≡ 6) }
+    ensures steady { (name : List ℕ) (bound : ℕ) → IsSynth (map string_bytes words.now) name bound →
+        IsTrue (F.never_fails files.old name) → result ≢ 4 }
 
     // What is not to be used is left as it was, also where it tells nothing.
     ensures out_left { result ≢ 0 → result ≢ 5 → out.new ≡ out.old }
@@ -271,7 +325,7 @@ pub fn run_here<F: Files, S: Sink, E: Sink>(
     ensures no_form_left { HasNoForm (map string_bytes words.now) → (files.new ≡ files.old) × (out.new ≡ out.old) }
 {
     match parse(words) {
-        None => tell(notes, b"words: no such form\n", 2),
-        Some(command) => synth(alloc, files, out, notes, command.file(), command.bound()),
+        None => tell(notes, b"words: no such form\n", Status::NoForm).number(),
+        Some(command) => synth(alloc, files, out, notes, command.file(), command.bound()).number(),
     }
 }

@@ -1,5 +1,5 @@
-use Rattle.std.proofs.Common.{◌≡◌, ◌≤◌, ◌<◌, ◌-◌, ◌^◌, ◌+◌, ℕ, List, IfSome, length}
-use Rattle.isel_base.specs.Outside.{IsFront}
+use Rattle.std.proofs.Common.{◌≡◌, ◌≤◌, ◌<◌, ◌-◌, ◌^◌, ◌+◌, ℕ, List, IfSome, IsTrue, length}
+use Rattle.isel_base.specs.Outside.{IsFront, ReadsOnly}
 use Rattle.isel_base.proofs.reading.read_all.Given as goal
 
 abbrev pub invariant-loop-files : goal.invariant-loop-files
@@ -8,6 +8,8 @@ invariant-loop-files g l = record {
   told : IfSome (g.F.Files.bytes l.fn.files l.name) (λ all. IsFront all l.got.items);
   counts : (other : List ℕ) → g.F.Files.faults l.fn.files other ≤ g.F.Files.faults l.files other;
   same : (other : List ℕ) → g.F.Files.bytes l.files other ≡ g.F.Files.bytes l.fn.files other;
+  only : ReadsOnly g.F.Files.read_leaves l.name l.fn.files l.files;
+  stays : (other : List ℕ) → IsTrue (g.F.Files.never_fails l.fn.files other) → IsTrue (g.F.Files.never_fails l.files other);
 }
 
 abbrev pub decreases-loop-files : goal.decreases-loop-files

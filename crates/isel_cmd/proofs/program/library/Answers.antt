@@ -1,5 +1,5 @@
 use Rattle.std.proofs.Common.{◌≡◌, ap, Err}
-use Rattle.isel_cmd.specs.declared.program.Refusal.TheVariants.{Outside}
+use Rattle.isel_cmd.specs.declared.program.Refusal.TheVariants.{Outside, ReadFault}
 use Rattle.isel_spec.specs.Spec.{file}
 use Rattle.isel_cmd.proofs.program.library.Goals as goal
 
@@ -13,3 +13,7 @@ returns-in-Ok-library_of-clause-text g c = λ bytes told. record {
   is_file = c.in-Ok.ensures.read bytes told;
   library = c.in-Ok-library_of.ensures;
 }
+
+pub returns-in-Err-clause-steady : goal.returns-in-Err-clause-steady
+returns-in-Err-clause-steady g c = λ never e.
+    let same : c.in-Err.refusal ≡ ReadFault = cc in c.in-Err.ensures.steady never (ap (λ r. Err r) same)

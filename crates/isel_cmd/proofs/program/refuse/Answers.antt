@@ -1,12 +1,11 @@
-use Rattle.std.proofs.Common.{ℕ, List, ◌∙◌, subst}
+use Rattle.std.proofs.Common.{ℕ, List, ◌∙◌, subst, inl, inr}
 use Rattle.isel_base.specs.Outside.{HasPrefix}
-use Rattle.isel_cmd.specs.Refusal.{refused_status}
 use Rattle.isel_cmd.proofs.program.refuse.Goals as goal
 
 pub returns-in-Ok-clause-cut : goal.returns-in-Ok-clause-cut
 returns-in-Ok-clause-cut g c = λ five.
     let P : List ℕ → Type 0 = λ t. HasPrefix (g.E.Sink.written c.args.notes.now) t (g.E.Sink.written c.tell.new.notes) in
-    (refused_status c.args.refusal, subst P (c.as_bytes.ensures.value ∙ c.in-Ok.ensures) (c.tell.ensures.cut five))
+    inl (subst P (c.as_bytes.ensures.value ∙ c.in-Ok.ensures) (c.tell.ensures.cut five))
 
 pub returns-in-Err-clause-cut : goal.returns-in-Err-clause-cut
-returns-in-Err-clause-cut g c = λ five. (6, c.tell-in-Err.ensures.cut five)
+returns-in-Err-clause-cut g c = λ five. inr (c.tell-in-Err.ensures.cut five)
