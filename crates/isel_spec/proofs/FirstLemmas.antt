@@ -14,31 +14,46 @@ use Rattle.sexp_read.proofs.FaultLemmas.{trees-unique}
 use Rattle.isel_spec.specs.Fault.{text_fault}
 use Rattle.isel_spec.specs.File.{File}
 use Rattle.isel_spec.specs.Form.{IsFirstFile, file_in, list_of}
-use Rattle.isel_spec.specs.Defined.{HasFew}
+use Rattle.isel_spec.specs.Tables.{HasFew}
 use Rattle.isel_spec.specs.Reading.{Tells}
 use Rattle.isel_spec.proofs.Agreement.{all_agree}
 
 -- every fault but want of memory refuses
-text-tells : {X : Type 0} (Read : X → Type 0) (Refused : Type 0) (f : SexpFault) → ((f ≡ read.NoMemory → ⊥) → Refused) → Tells (Err (text_fault f)) Read Refused
+text-tells : {X : Type 0} (Read : X → Type 0) (Refused : Type 0) (f : SexpFault) → ((f ≡ read.NoMemory → ⊥) → Refused)
+    → Tells (Err (text_fault f)) Read Refused
 text-tells Read Refused (read.NotText place) h = h (λ e. cc)
 text-tells Read Refused (read.Unclosed place) h = h (λ e. cc)
 text-tells Read Refused (read.Stray place) h = h (λ e. cc)
 text-tells Read Refused (read.Deep place) h = h (λ e. cc)
 text-tells Read Refused read.NoMemory h = tt
 
-pub no-forest : (bytes : List ℕ) (fault : SexpFault) → ((forest : Forest) → IsReading bytes forest → IsButForMemory (Ok forest) (Err fault)) →
+pub no-forest : (bytes : List ℕ) (fault : SexpFault)
+    → ((forest : Forest) → IsReading bytes forest → IsButForMemory (Ok forest) (Err fault)) →
     Tells {X = Forest} (Err (text_fault fault)) (IsReading bytes) ((forest : Forest) → IsReading bytes forest → ⊥)
 no-forest bytes fault h =
-    text-tells (IsReading bytes) ((forest : Forest) → IsReading bytes forest → ⊥) fault (λ other forest r. ⊎_elim (λ e. cc) (λ e. other cc) (h forest r))
+    text-tells (IsReading bytes) ((forest : Forest) → IsReading bytes forest → ⊥) fault
+    (λ other forest r. ⊎_elim (λ e. cc) (λ e. other cc) (h forest r))
 
 -- a file has a forest
 pub no-file : (bytes : List ℕ) → ((forest : Forest) → IsReading bytes forest → ⊥) → (f : File) → IsFirstFile bytes f → ⊥
 no-file bytes none f is =
     let forest : Forest = record { items = items_of 0 is.trees; outermost = places 0 is.trees } in
-    none forest (is.trees, record { text = is.text; spelled = is.spelled; nested = is.nested; items = refl; outermost = refl })
+    none forest (
+      is.trees,
+      record {
+        text = is.text;
+        spelled = is.spelled;
+        nested = is.nested;
+        items = refl;
+        outermost =
+            refl;
+      },
+    )
 
-pub first-file : (bytes : List ℕ) (forest : Forest) → IsReading bytes forest → (Contains bytes 59 → ⊥) → length bytes ≤ 2 ^ 20 → (f : File) →
-    HasFew f × ((trees : List Tree) → AllZip (Denotes bytes forest.items) forest.outermost trees → file_in trees ≡ Some f) → IsFirstFile bytes f
+pub first-file : (bytes : List ℕ) (forest : Forest) → IsReading bytes forest → (Contains bytes 59 → ⊥)
+    → length bytes ≤ 2 ^ 20 → (f : File) →
+    HasFew f × ((trees : List Tree) → AllZip (Denotes bytes forest.items) forest.outermost trees
+    → file_in trees ≡ Some f) → IsFirstFile bytes f
 first-file bytes forest r plain short f h = record {
   trees = r.0;
   text = r.1.text;
@@ -52,8 +67,10 @@ first-file bytes forest r plain short f h = record {
 }
 
 pub no-first-file : (bytes : List ℕ) (forest : Forest) → IsReading bytes forest →
-    ((trees : List Tree) (f : File) → AllZip (Denotes bytes forest.items) forest.outermost trees → file_in trees ≡ Some f → HasFew f → ⊥) → (f : File) → IsFirstFile bytes f → ⊥
+    ((trees : List Tree) (f : File) → AllZip (Denotes bytes forest.items) forest.outermost trees
+    → file_in trees ≡ Some f → HasFew f → ⊥) → (f : File) → IsFirstFile bytes f → ⊥
 no-first-file bytes forest r none f is =
     let same = trees-unique (tokens bytes) is.trees r.0 is.spelled r.1.spelled in
-    none (list_of r.0) f (all_agree bytes forest.items forest.outermost r.0 (forest-denotes bytes r.0 forest r.1)) (ap (λ trees. file_in (list_of trees)) (sym same) ∙ is.says)
+    none (list_of r.0) f (all_agree bytes forest.items forest.outermost r.0 (forest-denotes bytes r.0 forest r.1))
+    (ap (λ trees. file_in (list_of trees)) (sym same) ∙ is.says)
     (record { in_ops = is.few_in_ops; in_goals = is.few_in_goals })

@@ -1,5 +1,6 @@
 -- A name is ASCII.
-use Rattle.std.proofs.Common.{◌≡◌, ◌&&◌, ℕ, ◌<◌, List, [], ◌∷◌, get_or, zero, suc, true, false, Bool, refl, arith, Option, Some, option_map, Result, Ok, Err}
+use Rattle.std.proofs.Common.{◌≡◌, ◌&&◌, ℕ, ◌<◌, List, [], ◌∷◌, get_or, zero, suc, true, false, Bool, refl, arith}
+use Rattle.std.proofs.Common.{Option, Some, option_map, Result, Ok, Err}
 use Rattle.std.specs.List.{list_all}
 use Rattle.std.specs.Str.{IsAscii, IsUtf8}
 use Rattle.std.specs.Prelude.{MatchResult}
@@ -28,6 +29,7 @@ pub name-ascii : (bytes : List ℕ) → is_name bytes ≡ true → IsAscii bytes
 name-ascii bytes e = all_small bytes (and_right _ _ (and_left _ _ (and_left _ _ e)))
 
 pub text-of-name : {E : Type 0} (bytes : List ℕ) (V : E → Type 0) (read : Result (Bor (List ℕ)) E) → IsUtf8 bytes →
-    MatchResult read (λ s. (s.now ≡ bytes) × IsUtf8 bytes) (λ e. ¬ (IsUtf8 bytes) × V e) → option_map (λ (s : Bor (List ℕ)). s.now) (result_ok read) ≡ Some bytes
+    MatchResult read (λ s. (s.now ≡ bytes) × IsUtf8 bytes) (λ e. ¬ (IsUtf8 bytes) × V e)
+    → option_map (λ (s : Bor (List ℕ)). s.now) (result_ok read) ≡ Some bytes
 text-of-name bytes V (Ok s) text h = rw h.0 refl
 text-of-name bytes V (Err e) text h = absurd (h.0 text)

@@ -1,9 +1,13 @@
 -- The nodes that a node leads to, each once, are the different terms that stand in its term.
-use Rattle.std.proofs.Common.{◌≡◌, ℕ, ◌+◌, ◌-◌, ◌<◌, ◌≤◌, zero, suc, List, [], ◌∷◌, ◌++◌, length, get_or, take, drop, map, refl, ap, sym, ◌∙◌, subst, arith, Bool, true, false, Option, Some, None, append_assoc, ◌⊎◌, inl, inr, ⊎_elim, nat_eq, unwrap_or, ◌||◌}
+use Rattle.std.proofs.Common.{◌≡◌, ℕ, ◌+◌, ◌-◌, ◌<◌, ◌≤◌, zero, suc, List, [], ◌∷◌, ◌++◌, length, get_or, take, drop}
+use Rattle.std.proofs.Common.{map, refl, ap, sym, ◌∙◌, subst, arith, Bool, true, false, Option, Some, None}
+use Rattle.std.proofs.Common.{append_assoc, ◌⊎◌, inl, inr, ⊎_elim, nat_eq, unwrap_or, ◌||◌}
 use Rattle.std.specs.Prelude.{Contains, All}
 use Rattle.std.specs.List.{IsDistinct, list_any, slice_get, AllByRecursion}
 use Rattle.std.proofs.lemmas.List.{length-append}
-use Rattle.std.proofs.lemmas.List.Elements.{All-nil, All-push, All-weaker, All-append, All-more, All-contains, All-get_or, Contains-append_left, Contains-append_right, Contains-push, Contains-get_or, Contains-append_cases}
+use Rattle.std.proofs.lemmas.List.Elements.{All-nil, All-push, All-weaker, All-append, All-more, All-contains}
+use Rattle.std.proofs.lemmas.List.Elements.{All-get_or, Contains-append_left, Contains-append_right, Contains-push}
+use Rattle.std.proofs.lemmas.List.Elements.{Contains-get_or, Contains-append_cases}
 use Rattle.std.proofs.lemmas.Bool.{false≢true, cases_lt}
 use Rattle.std.proofs.lemmas.Bool.Decides.{Decides-eqb}
 use Rattle.std.proofs.lemmas.Option.{slice_get-get_or, same_Some, slice_get_within, get_or_from_slice_get}
@@ -17,7 +21,9 @@ use Rattle.bv_terms.specs.Term as term
 use Rattle.bv_terms.specs.Term.{Term, Operands, Apply}
 use Rattle.bv_terms.specs.Table.{Table, Entry, IsTable, terms_of, term_in, operands}
 use Rattle.bv_terms.proofs.TableLemmas.{slice_get-terms_of, length-terms_of}
-use Rattle.isel_spec.specs.Form.{StandsIn, StandsAmong, HasFewTerms}
+use Rattle.bv_terms.specs.Subterm.{IsSubterm}
+use Rattle.bv_terms.proofs.SubtermLemmas.{IsSubterm-itself, IsSubterm-through, argument-subterm}
+use Rattle.isel_spec.specs.Form.{HasFewTerms}
 use Rattle.isel_spec.specs.Nodes.{Adds}
 use Rattle.isel_spec.proofs.Scopes.{map-take-more, only_one}
 
@@ -26,30 +32,41 @@ numbers nodes = map (λ (node : TermId). node.0) nodes
 
 -- ---- one more node among those that are added
 
-wider : (nodes : List TermId) (i : ℕ) (node : TermId) → slice_get nodes i ≡ Some node → (n : ℕ) → Contains (numbers (take i nodes)) n → Contains (numbers (take (i + 1) nodes)) n
-wider nodes i node e n h = subst (λ ns. Contains ns n) (sym (map-take-more (λ (x : TermId). x.0) nodes i node e)) (Contains-append_left (numbers (take i nodes)) (node.0 ∷ []) n h)
+wider : (nodes : List TermId) (i : ℕ) (node : TermId) → slice_get nodes i ≡ Some node → (n : ℕ)
+    → Contains (numbers (take i nodes)) n → Contains (numbers (take (i + 1) nodes)) n
+wider nodes i node e n h =
+    subst (λ ns. Contains ns n) (sym (map-take-more (λ (x : TermId). x.0) nodes i node e))
+    (Contains-append_left (numbers (take i nodes)) (node.0 ∷ []) n h)
 
-pub adds-skip : (old cur : List ℕ) (nodes : List TermId) (i : ℕ) (node : TermId) → slice_get nodes i ≡ Some node → Adds old cur (take i nodes) → Contains cur node.0 →
+pub adds-skip : (old cur : List ℕ) (nodes : List TermId) (i : ℕ) (node : TermId) → slice_get nodes i ≡ Some node
+    → Adds old cur (take i nodes) → Contains cur node.0 →
     Adds old cur (take (i + 1) nodes)
 adds-skip old cur nodes i node e adds has = record {
   more = adds.more;
   is = adds.is;
-  all = All-more (λ (n : TermId). Contains cur n.0) nodes i node (slice_get_within nodes i node e) adds.all (subst (λ (n : TermId). Contains cur n.0) (sym (get_or_from_slice_get nodes i node node e)) has);
-  only = All-weaker (λ (n : ℕ). Contains (numbers (take i nodes)) n) (λ (n : ℕ). Contains (numbers (take (i + 1) nodes)) n) (wider nodes i node e) adds.more adds.only;
+  all = All-more (λ (n : TermId). Contains cur n.0) nodes i node (slice_get_within nodes i node e) adds.all
+      (subst (λ (n : TermId). Contains cur n.0) (sym (get_or_from_slice_get nodes i node node e)) has);
+  only = All-weaker (λ (n : ℕ). Contains (numbers (take i nodes)) n)
+      (λ (n : ℕ). Contains (numbers (take (i + 1) nodes)) n) (wider nodes i node e) adds.more adds.only;
   distinct = adds.distinct;
 }
 
-pub adds-push : (old cur : List ℕ) (nodes : List TermId) (i : ℕ) (node : TermId) → slice_get nodes i ≡ Some node → Adds old cur (take i nodes) → list_any (nat_eq node.0) cur ≡ false →
+pub adds-push : (old cur : List ℕ) (nodes : List TermId) (i : ℕ) (node : TermId) → slice_get nodes i ≡ Some node
+    → Adds old cur (take i nodes) → list_any (nat_eq node.0) cur ≡ false →
     Adds old (cur ++ node.0 ∷ []) (take (i + 1) nodes)
 adds-push old cur nodes i node e adds new = record {
   more = adds.more ++ node.0 ∷ [];
   is = ap (λ ns. ns ++ node.0 ∷ []) adds.is ∙ append_assoc old adds.more (node.0 ∷ []);
   all = All-more (λ (n : TermId). Contains (cur ++ node.0 ∷ []) n.0) nodes i node (slice_get_within nodes i node e)
-      (All-weaker (λ (n : TermId). Contains cur n.0) (λ (n : TermId). Contains (cur ++ node.0 ∷ []) n.0) (λ n h. Contains-append_left cur (node.0 ∷ []) n.0 h) (take i nodes) adds.all)
-      (subst (λ (n : TermId). Contains (cur ++ node.0 ∷ []) n.0) (sym (get_or_from_slice_get nodes i node node e)) (Contains-push cur node.0));
+      (All-weaker (λ (n : TermId). Contains cur n.0) (λ (n : TermId). Contains (cur ++ node.0 ∷ []) n.0)
+      (λ n h. Contains-append_left cur (node.0 ∷ []) n.0 h) (take i nodes) adds.all)
+      (subst (λ (n : TermId). Contains (cur ++ node.0 ∷ []) n.0) (sym (get_or_from_slice_get nodes i node node e))
+      (Contains-push cur node.0));
   only = All-push (λ (n : ℕ). Contains (numbers (take (i + 1) nodes)) n) adds.more node.0
-      (All-weaker (λ (n : ℕ). Contains (numbers (take i nodes)) n) (λ (n : ℕ). Contains (numbers (take (i + 1) nodes)) n) (wider nodes i node e) adds.more adds.only)
-      (subst (λ ns. Contains ns node.0) (sym (map-take-more (λ (x : TermId). x.0) nodes i node e)) (Contains-push (numbers (take i nodes)) node.0));
+      (All-weaker (λ (n : ℕ). Contains (numbers (take i nodes)) n)
+      (λ (n : ℕ). Contains (numbers (take (i + 1) nodes)) n) (wider nodes i node e) adds.more adds.only)
+      (subst (λ ns. Contains ns node.0) (sym (map-take-more (λ (x : TermId). x.0) nodes i node e))
+      (Contains-push (numbers (take i nodes)) node.0));
   distinct = λ d. IsDistinct-push nat_eq_equiv cur node.0 (adds.distinct d) new;
 }
 
@@ -61,45 +78,10 @@ pub any-contains : (n : ℕ) (xs : List ℕ) → list_any (λ y. nat_eq y n) xs 
 any-contains n [] e = absurd (false≢true e)
 any-contains n (x ∷ xs) e = by_first (nat_eq x n) refl e (any-contains n xs)
   where
-    by_first : (b : Bool) → nat_eq x n ≡ b → (b || list_any (λ y. nat_eq y n) xs) ≡ true → (list_any (λ y. nat_eq y n) xs ≡ true → Contains xs n) → Contains (x ∷ xs) n
+    by_first : (b : Bool) → nat_eq x n ≡ b → (b || list_any (λ y. nat_eq y n) xs) ≡ true
+        → (list_any (λ y. nat_eq y n) xs ≡ true → Contains xs n) → Contains (x ∷ xs) n
     by_first true same e rest = (zero, omega arith, (Decides-eqb x n).0 same)
     by_first false same e rest = Contains-append_right (x ∷ []) xs n (rest e)
-
--- ---- what stands in a term
-
-pub stands-itself : (t : Term) → StandsIn t t
-unfolding StandsIn
-stands-itself (Apply o ts) = inl refl
-
-mutual
-  unfolding StandsIn StandsAmong
-
-  stands-through : (r s t : Term) → StandsIn r s → StandsIn s t → StandsIn r t
-  stands-through r s (Apply o ts) a b = ⊎_elim (λ same. subst (StandsIn r) same a) (λ among. inr (stands-among r s ts a among)) b
-
-  stands-among : (r s : Term) (ts : Operands) → StandsIn r s → StandsAmong s ts → StandsAmong r ts
-  stands-among r s term.End a b = absurd b
-  stands-among r s (term.Then t ts) a b = ⊎_elim (λ here. inl (stands-through r s t a here)) (λ later. inr (stands-among r s ts a later)) b
-
--- an argument stands among the operands
-argument-among : (ts : List Term) (args : List TermId) (n : ℕ) → Contains (numbers args) n → StandsAmong (term_in ts n) (operands ts args)
-unfolding StandsIn StandsAmong
-argument-among ts [] n h = absurd (omega (arith, h.1))
-argument-among ts (a ∷ args) n h =
-    ⊎_elim
-    (λ first. inl (subst (λ k. StandsIn (term_in ts k) (term_in ts a.0)) (only_one a.0 n first) (stands-itself (term_in ts a.0))))
-    (λ later. inr (argument-among ts args n later))
-    (Contains-append_cases (a.0 ∷ []) (numbers args) n h)
-
--- what stands among the operands stands in an argument
-pub among-argument : (ts : List Term) (args : List TermId) (s : Term) → StandsAmong s (operands ts args) → (a : TermId) × Contains args a × StandsIn s (term_in ts a.0)
-unfolding StandsIn StandsAmong
-among-argument ts [] s h = absurd h
-among-argument ts (a ∷ args) s h =
-    ⊎_elim
-    (λ here. (a, (zero, omega arith, refl), here))
-    (λ later. let found = among-argument ts args s later in (found.0, Contains-append_right (a ∷ []) args found.0 found.1, found.2))
-    h
 
 -- ---- the nodes that a node leads to
 
@@ -107,22 +89,31 @@ among-argument ts (a ∷ args) s h =
 pub record Found (table : Table) (at next : ℕ) (found : List ℕ) : Type 0 where
   pub room : next ≤ length found
   pub first : Contains found at
-  pub sound : All (λ (k : ℕ). (k < length table.nodes) × StandsIn (term_in (terms_of table) k) (term_in (terms_of table) at)) found
+  pub sound : All (λ (k : ℕ). (k < length table.nodes)
+      × IsSubterm (term_in (terms_of table) k) (term_in (terms_of table) at)) found
   pub distinct : IsDistinct nat_eq found
-  pub closed : (j : ℕ) (e : Entry) → j < next → slice_get table.nodes (get_or found j 0) ≡ Some e → All (λ (a : TermId). Contains found a.0) e.args
+  pub closed : (j : ℕ) (e : Entry) → j < next → slice_get table.nodes (get_or found j 0) ≡ Some e
+      → All (λ (a : TermId). Contains found a.0) e.args
 
 pub found-first : (table : Table) (at : ℕ) → at < length table.nodes → Found table at 0 (at ∷ [])
 unfolding IsDistinct
 found-first table at h = record {
   room = omega arith;
   first = (zero, omega arith, refl);
-  sound = All-push (λ (k : ℕ). (k < length table.nodes) × StandsIn (term_in (terms_of table) k) (term_in (terms_of table) at)) [] at (All-nil (λ (k : ℕ). (k < length table.nodes) × StandsIn (term_in (terms_of table) k) (term_in (terms_of table) at))) (h, stands-itself (term_in (terms_of table) at));
+  sound = All-push (λ (k : ℕ). (k < length table.nodes)
+      × IsSubterm (term_in (terms_of table) k) (term_in (terms_of table) at)) [] at
+      (All-nil (λ (k : ℕ). (k < length table.nodes)
+      × IsSubterm (term_in (terms_of table) k) (term_in (terms_of table) at)))
+      (h, IsSubterm-itself (term_in (terms_of table) at));
   distinct = (tt, tt);
   closed = λ j e below is. absurd (omega (arith, below));
 }
 
-pub node-term : (table : Table) → IsTable table → (k : ℕ) (e : Entry) → slice_get table.nodes k ≡ Some e → term_in (terms_of table) k ≡ Apply e.op (operands (terms_of table) e.args)
-node-term table is k e h = ap (λ o. unwrap_or o (Apply (Rattle.bv_terms.specs.declared.op.Op.TheVariants.Bits 0 0) term.End)) (slice_get-terms_of table is k e h)
+pub node-term : (table : Table) → IsTable table → (k : ℕ) (e : Entry) → slice_get table.nodes k ≡ Some e
+    → term_in (terms_of table) k ≡ Apply e.op (operands (terms_of table) e.args)
+node-term table is k e h =
+    ap (λ o. unwrap_or o (Apply (Rattle.bv_terms.specs.declared.op.Op.TheVariants.Bits 0 0) term.End))
+    (slice_get-terms_of table is k e h)
 
 number-of : (args : List TermId) (n : ℕ) → Contains (numbers args) n → (a : TermId) × Contains args a × (a.0 ≡ n)
 number-of [] n h = absurd (omega (arith, h.1))
@@ -131,17 +122,16 @@ number-of (a ∷ args) n h =
     (λ later. let rest = number-of args n later in (rest.0, Contains-append_right (a ∷ []) args rest.0 rest.1, rest.2))
     (Contains-append_cases (a.0 ∷ []) (numbers args) n h)
 
-operand-stands : (table : Table) → IsTable table → (k : ℕ) (e : Entry) → slice_get table.nodes k ≡ Some e → (n : ℕ) → Contains (numbers e.args) n →
-    (n < k) × StandsIn (term_in (terms_of table) n) (term_in (terms_of table) k)
-unfolding StandsIn
+operand-stands : (table : Table) → IsTable table → (k : ℕ) (e : Entry) → slice_get table.nodes k ≡ Some e
+    → (n : ℕ) → Contains (numbers e.args) n
+    → (n < k) × IsSubterm (term_in (terms_of table) n) (term_in (terms_of table) k)
 operand-stands table is k e h n c =
     let arg = number-of e.args n c in
-    let below : arg.0.0 < k = All-contains (λ (a : TermId). a.0 < k) e.args arg.0 (is.earlier k e h) arg.1 in (
-      subst (λ m. m < k) arg.2 below,
-      subst (StandsIn (term_in (terms_of table) n)) (sym (node-term table is k e h)) (inr (argument-among (terms_of table) e.args n c)),
-    )
+    let below : ℕ → Type 0 = λ m. (m < k) × IsSubterm (term_in (terms_of table) m) (term_in (terms_of table) k) in
+    subst below arg.2 (argument-subterm table is (record { 0 = k }) e h arg.0 arg.1)
 
-pub found-more : (table : Table) → IsTable table → (at next : ℕ) (found new : List ℕ) (e : Entry) → next < length found → slice_get table.nodes (get_or found next 0) ≡ Some e →
+pub found-more : (table : Table) → IsTable table → (at next : ℕ) (found new : List ℕ) (e : Entry) → next < length found
+    → slice_get table.nodes (get_or found next 0) ≡ Some e →
     Found table at next found → Adds found new e.args → Found table at (next + 1) new
 found-more table is at next found new e h node has adds = record {
   room = subst (λ ns. next + 1 ≤ length ns) (sym adds.is) (rw (length-append found adds.more) (omega arith));
@@ -149,25 +139,31 @@ found-more table is at next found new e h node has adds = record {
   sound = subst (All Below) (sym adds.is) (All-append Below found adds.more has.sound
       (All-weaker (λ (n : ℕ). Contains (numbers e.args) n) Below
       (λ n c. let stands = operand-stands table is (get_or found next 0) e node n c in
-      let here = All-get_or Below found next 0 h has.sound in
-      (omega (arith, stands.0, here.0), stands-through (term_in (terms_of table) n) (term_in (terms_of table) (get_or found next 0)) (term_in (terms_of table) at) stands.1 here.1))
+      let here = All-get_or Below found next 0 h has.sound in (
+        omega (arith, stands.0, here.0),
+        IsSubterm-through (term_in (terms_of table) n) (term_in (terms_of table) (get_or found next 0))
+            (term_in (terms_of table) at) stands.1 here.1,
+      ))
       adds.more adds.only));
   distinct = adds.distinct has.distinct;
   closed = λ j f below is_node. ⊎_elim
       (λ earlier.
-      let same : get_or new j 0 ≡ get_or found j 0 = ap (λ ns. get_or ns j 0) adds.is ∙ get_or-append found adds.more 0 j (omega arith) in
+      let same : get_or new j 0 ≡ get_or found j 0 =
+      ap (λ ns. get_or ns j 0) adds.is ∙ get_or-append found adds.more 0 j (omega arith) in
       All-weaker (λ (a : TermId). Contains found a.0) (λ (a : TermId). Contains new a.0)
       (λ a c. subst (λ ns. Contains ns a.0) (sym adds.is) (Contains-append_left found adds.more a.0 c)) f.args
       (has.closed j f earlier (ap (slice_get table.nodes) (sym same) ∙ is_node)))
       (λ last.
-      let same : get_or new j 0 ≡ get_or found next 0 = ap (λ i. get_or new i 0) last ∙ ap (λ ns. get_or ns next 0) adds.is ∙ get_or-append found adds.more 0 next h in
+      let same : get_or new j 0 ≡ get_or found next 0 =
+      ap (λ i. get_or new i 0) last ∙ ap (λ ns. get_or ns next 0) adds.is
+      ∙ get_or-append found adds.more 0 next h in
       let entry : e ≡ f = same_Some e f (sym node ∙ ap (slice_get table.nodes) (sym same) ∙ is_node) in
       subst (λ (g : Entry). All (λ (a : TermId). Contains new a.0) g.args) entry adds.all)
       (below_or next j below);
 }
   where
     Below : ℕ → Type 0
-    Below k = (k < length table.nodes) × StandsIn (term_in (terms_of table) k) (term_in (terms_of table) at)
+    Below k = (k < length table.nodes) × IsSubterm (term_in (terms_of table) k) (term_in (terms_of table) at)
 
     below_or : (n j : ℕ) → j < n + 1 → (j < n) ⊎ (j ≡ n)
     below_or n j b = ⊎_elim (λ l. inl l) (λ g. inr (omega (arith, g, b))) (cases_lt j n)

@@ -1,11 +1,14 @@
 -- Arguments are read one by one, and refused where there are too many or a name comes twice.
-use Rattle.std.proofs.Common.{◌≡◌, ℕ, ◌+◌, ◌<◌, ◌≤◌, suc, List, [], ◌∷◌, ◌++◌, length, get_or, drop, map, take, refl, ap, sym, ◌∙◌, subst, arith, add-one, Bool, true, false, not, ◌&&◌, ◌||◌, Option, Some, None, option_map, option_and_then, append_assoc, zero, IsSome, ⊎_elim, length-append}
+use Rattle.std.proofs.Common.{◌≡◌, ℕ, ◌+◌, ◌<◌, ◌≤◌, suc, List, [], ◌∷◌, ◌++◌, length, get_or, drop, map, take, refl}
+use Rattle.std.proofs.Common.{ap, sym, ◌∙◌, subst, arith, add-one, Bool, true, false, not, ◌&&◌, ◌||◌, Option, Some}
+use Rattle.std.proofs.Common.{None, option_map, option_and_then, append_assoc, zero, IsSome, ⊎_elim, length-append}
 use Rattle.std.specs.Prelude.{Contains, nat_le}
 use Rattle.std.specs.List.{list_any, slice_get}
 use Rattle.std.specs.Str.{bytes_eq}
 use Rattle.std.proofs.Math.Seq.{drop-cons}
 use Rattle.std.proofs.lemmas.List.{drop_all}
-use Rattle.std.proofs.lemmas.List.Elements.{Contains-append_cases, Contains-append_right, All-contains, All-cons, All-nil}
+use Rattle.std.proofs.lemmas.List.Elements.{Contains-append_cases, Contains-append_right, All-contains, All-cons}
+use Rattle.std.proofs.lemmas.List.Elements.{All-nil}
 use Rattle.std.proofs.lemmas.List.Recursion.{or_at, or_push}
 use Rattle.std.proofs.lemmas.Slice.Eq.{bytes_eq-Decides}
 use Rattle.std.proofs.lemmas.Option.{none-some, same_Some}
@@ -16,15 +19,19 @@ use Rattle.isel_spec.specs.Form.{Binding, differ, scope_of, where_true}
 -- ---- what each gives, one after another
 
 pub front-step : {B : Type 0} (done : List B) (y : B) (o : Option (List B)) →
-    option_map (λ more. done ++ more) (option_and_then (λ ys. Some (y ∷ ys)) o) ≡ option_map (λ more. (done ++ y ∷ []) ++ more) o
+    option_map (λ more. done ++ more) (option_and_then (λ ys. Some (y ∷ ys)) o)
+    ≡ option_map (λ more. (done ++ y ∷ []) ++ more) o
 front-step done y None = refl
 front-step done y (Some ys) = ap Some (sym (append_assoc done (y ∷ []) ys))
 
-pub each-more : {B : Type 0} (f : ℕ → Option B) (xs : List ℕ) (i : ℕ) (done : List B) (y : B) → i < length xs → f (get_or xs i 0) ≡ Some y →
-    option_map (λ more. done ++ more) (each f (drop i xs)) ≡ option_map (λ more. (done ++ y ∷ []) ++ more) (each f (drop (i + 1) xs))
+pub each-more : {B : Type 0} (f : ℕ → Option B) (xs : List ℕ) (i : ℕ) (done : List B) (y : B) → i < length xs
+    → f (get_or xs i 0) ≡ Some y →
+    option_map (λ more. done ++ more) (each f (drop i xs))
+    ≡ option_map (λ more. (done ++ y ∷ []) ++ more) (each f (drop (i + 1) xs))
 each-more f xs i done y h e = rw (add-one, drop-cons xs i 0, e) (front-step done y (each f (drop (suc i) xs)))
 
-pub each-stop : {B : Type 0} (f : ℕ → Option B) (xs : List ℕ) (i : ℕ) (done : List B) → i < length xs → f (get_or xs i 0) ≡ None →
+pub each-stop : {B : Type 0} (f : ℕ → Option B) (xs : List ℕ) (i : ℕ) (done : List B) → i < length xs
+    → f (get_or xs i 0) ≡ None →
     option_map (λ more. done ++ more) (each f (drop i xs)) ≡ None
 each-stop f xs i done h e = rw (drop-cons xs i 0, e) refl
 
@@ -62,44 +69,57 @@ and_false true b e = e
 and_false false b e = refl
 
 pub any_name : (name : List ℕ) (names : List (List ℕ)) → Contains names name → list_any (bytes_eq name) names ≡ true
-any_name name names h = or_at (list_any (bytes_eq name)) (bytes_eq name) refl (λ _ _. refl) names h.0 name h.1 (rw h.2 (bytes_eq-same name))
+any_name name names h =
+    or_at (list_any (bytes_eq name)) (bytes_eq name) refl (λ _ _. refl) names h.0 name h.1 (rw h.2 (bytes_eq-same name))
 
-pub differ-apart : (names : List (List ℕ)) (name : List ℕ) → differ names ≡ true → (Contains names name → ⊥) → differ (names ++ name ∷ []) ≡ true
+pub differ-apart : (names : List (List ℕ)) (name : List ℕ) → differ names ≡ true → (Contains names name → ⊥)
+    → differ (names ++ name ∷ []) ≡ true
 differ-apart [] name e h = refl
 differ-apart (n ∷ names) name e h =
     let any = or_push (list_any (bytes_eq n)) (bytes_eq n) refl (λ _ _. refl) names name in
-    let other : bytes_eq n name ≡ false = false_unless (bytes_eq n name) (λ same. h (zero, omega arith, (bytes_eq-Decides n name).0 same)) in
+    let other : bytes_eq n name ≡ false =
+    false_unless (bytes_eq n name) (λ same. h (zero, omega arith, (bytes_eq-Decides n name).0 same)) in
     let both = and_true (not (list_any (bytes_eq n) names)) (differ names) e in
     let rest = differ-apart names name both.1 (λ c. h (Contains-append_right (n ∷ []) names name c)) in
     rw (any, other) (tidy (list_any (bytes_eq n) names) (differ (names ++ name ∷ [])) both.0 rest)
 
 pub only_one : {A : Type 0} (n name : A) → Contains (n ∷ []) name → n ≡ name
-only_one n name h = sym (All-contains (λ x. x ≡ n) (n ∷ []) name (All-cons (λ x. x ≡ n) n [] refl (All-nil (λ x. x ≡ n))) h)
+only_one n name h = sym
+    (All-contains (λ x. x ≡ n) (n ∷ []) name (All-cons (λ x. x ≡ n) n [] refl (All-nil (λ x. x ≡ n))) h)
 
-pub differ-twice : (names : List (List ℕ)) (name : List ℕ) (more : List (List ℕ)) → Contains names name → differ (names ++ name ∷ more) ≡ false
+pub differ-twice : (names : List (List ℕ)) (name : List ℕ) (more : List (List ℕ)) → Contains names name
+    → differ (names ++ name ∷ more) ≡ false
 differ-twice [] name more h = absurd (omega (arith, h.1))
 differ-twice (n ∷ names) name more h =
     ⊎_elim
     (λ first.
-    let here : Contains (names ++ name ∷ more) n = Contains-append_right names (name ∷ more) n (zero, omega arith, sym (only_one n name first)) in
-    or_true (list_any (bytes_eq n) (names ++ name ∷ more)) (differ (names ++ name ∷ more)) (any_name n (names ++ name ∷ more) here))
-    (λ later. and_false (not (list_any (bytes_eq n) (names ++ name ∷ more))) (differ (names ++ name ∷ more)) (differ-twice names name more later))
+    let here : Contains (names ++ name ∷ more) n =
+    Contains-append_right names (name ∷ more) n (zero, omega arith, sym (only_one n name first)) in
+    or_true (list_any (bytes_eq n) (names ++ name ∷ more)) (differ (names ++ name ∷ more))
+    (any_name n (names ++ name ∷ more) here))
+    (λ later. and_false (not (list_any (bytes_eq n) (names ++ name ∷ more))) (differ (names ++ name ∷ more))
+    (differ-twice names name more later))
     (Contains-append_cases (n ∷ []) names name h)
 
 -- ---- arguments
 
-names-append : (xs ys : List Binding) → map (λ (b : Binding). b.0) (xs ++ ys) ≡ map (λ (b : Binding). b.0) xs ++ map (λ (b : Binding). b.0) ys
+names-append : (xs ys : List Binding)
+    → map (λ (b : Binding). b.0) (xs ++ ys) ≡ map (λ (b : Binding). b.0) xs ++ map (λ (b : Binding). b.0) ys
 names-append [] ys = refl
 names-append (x ∷ xs) ys = ap (λ zs. x.0 ∷ zs) (names-append xs ys)
 
-pub scope-twice : (done : List Binding) (b : Binding) (o : Option (List Binding)) → Contains (map (λ (c : Binding). c.0) done) b.0 →
+pub scope-twice : (done : List Binding) (b : Binding) (o : Option (List Binding))
+    → Contains (map (λ (c : Binding). c.0) done) b.0 →
     option_and_then scope_of (option_map (λ more. (done ++ b ∷ []) ++ more) o) ≡ None
 scope-twice done b None h = refl
 scope-twice done b (Some more) h =
-    let names : map (λ (c : Binding). c.0) ((done ++ b ∷ []) ++ more) ≡ map (λ (c : Binding). c.0) done ++ b.0 ∷ map (λ (c : Binding). c.0) more =
+    let names : map (λ (c : Binding). c.0) ((done ++ b ∷ []) ++ more)
+    ≡ map (λ (c : Binding). c.0) done ++ b.0 ∷ map (λ (c : Binding). c.0) more =
     ap (map (λ (c : Binding). c.0)) (append_assoc done (b ∷ []) more) ∙ names-append done (b ∷ more) in
-    let twice = ap differ names ∙ differ-twice (map (λ (c : Binding). c.0) done) b.0 (map (λ (c : Binding). c.0) more) h in
-    rw (and_false (nat_le (length ((done ++ b ∷ []) ++ more)) 4) (differ (map (λ (c : Binding). c.0) ((done ++ b ∷ []) ++ more))) twice) refl
+    let twice = ap differ names ∙ differ-twice (map (λ (c : Binding). c.0) done) b.0 (map (λ (c : Binding). c.0) more) h
+    in
+    rw (and_false (nat_le (length ((done ++ b ∷ []) ++ more)) 4)
+    (differ (map (λ (c : Binding). c.0) ((done ++ b ∷ []) ++ more))) twice) refl
 
 pub scope-long : (done : List Binding) (b : Binding) (o : Option (List Binding)) → length done ≡ 4 →
     option_and_then scope_of (option_map (λ more. (done ++ b ∷ []) ++ more) o) ≡ None
@@ -109,14 +129,17 @@ scope-long done b (Some more) h =
     let n = length-append (done ++ b ∷ []) more in let m = length-append done (b ∷ []) in grind (arith, nat_tests) in
     rw long refl
 
-pub apart-more : (done : List Binding) (b : Binding) → differ (map (λ (c : Binding). c.0) done) ≡ true → (Contains (map (λ (c : Binding). c.0) done) b.0 → ⊥) →
+pub apart-more : (done : List Binding) (b : Binding) → differ (map (λ (c : Binding). c.0) done) ≡ true
+    → (Contains (map (λ (c : Binding). c.0) done) b.0 → ⊥) →
     differ (map (λ (c : Binding). c.0) (done ++ b ∷ [])) ≡ true
 apart-more done b e h = ap differ (names-append done (b ∷ [])) ∙ differ-apart (map (λ (c : Binding). c.0) done) b.0 e h
 
-map-take-suc : {A B : Type 0} (f : A → B) (xs : List A) (i : ℕ) (x : A) → slice_get xs i ≡ Some x → map f (take (suc i) xs) ≡ map f (take i xs) ++ f x ∷ []
+map-take-suc : {A B : Type 0} (f : A → B) (xs : List A) (i : ℕ) (x : A) → slice_get xs i ≡ Some x
+    → map f (take (suc i) xs) ≡ map f (take i xs) ++ f x ∷ []
 map-take-suc f [] i x e = absurd (none-some x e)
 map-take-suc f (y ∷ xs) zero x e = ap (λ z. f z ∷ []) (same_Some y x e)
 map-take-suc f (y ∷ xs) (suc i) x e = ap (λ zs. f y ∷ zs) (map-take-suc f xs i x e)
 
-pub map-take-more : {A B : Type 0} (f : A → B) (xs : List A) (i : ℕ) (x : A) → slice_get xs i ≡ Some x → map f (take (i + 1) xs) ≡ map f (take i xs) ++ f x ∷ []
+pub map-take-more : {A B : Type 0} (f : A → B) (xs : List A) (i : ℕ) (x : A) → slice_get xs i ≡ Some x
+    → map f (take (i + 1) xs) ≡ map f (take i xs) ++ f x ∷ []
 map-take-more f xs i x e = rw (add-one) (map-take-suc f xs i x e)

@@ -212,7 +212,8 @@ CanEval-goal s k name d results inputs values e as' same h =
     can_eval s.terms sorts values results (λ j r l. IsSoundResult-goal s k name d results j r e as' l) fit
 
 values-map : (ts : List Term) (vs : List Value) (ats : List TermId)
-    → map (value vs) (map (λ (at : TermId). term_in ts at.0) ats) ≡ map (λ (at : TermId). value vs (term_in ts at.0)) ats
+    → map (value vs) (map (λ (at : TermId). term_in ts at.0) ats)
+    ≡ map (λ (at : TermId). value vs (term_in ts at.0)) ats
 values-map ts vs [] = refl
 values-map ts vs (at ∷ ats) = ap (λ xs. value vs (term_in ts at.0) ∷ xs) (values-map ts vs ats)
 

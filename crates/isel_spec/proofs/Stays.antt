@@ -1,5 +1,6 @@
 -- The inputs of a term that is read are names in scope.
-use Rattle.std.proofs.Common.{◌≡◌, ℕ, ◌+◌, ◌-◌, ◌≤◌, suc, zero, List, [], ◌∷◌, length, map, refl, ap, sym, ◌∙◌, subst, arith, Bool, true, false, ◌&&◌, cond, Option, Some, None, option_map, option_and_then}
+use Rattle.std.proofs.Common.{◌≡◌, ℕ, ◌+◌, ◌-◌, ◌≤◌, suc, zero, List, [], ◌∷◌, length, map, refl, ap, sym, ◌∙◌, subst}
+use Rattle.std.proofs.Common.{arith, Bool, true, false, ◌&&◌, cond, Option, Some, None, option_map, option_and_then}
 use Rattle.std.specs.Prelude.{codes}
 use Rattle.std.specs.List.{slice_get}
 use Rattle.std.specs.Option.{option_map_or}
@@ -13,11 +14,12 @@ use Rattle.bv_terms.specs.Term as term
 use Rattle.bv_terms.specs.Term.{Term, Operands, Apply}
 use Rattle.bv_terms.specs.Sorts.{same_sort, sort_of}
 use Rattle.sexp_read.specs.Tree.{Tree, Trees, Word, Branch, End, Then}
-use Rattle.isel_spec.specs.declared.words.Base.{Base}
-use Rattle.isel_spec.specs.declared.words.Base.TheVariants.{Binary, Hexadecimal}
+use Rattle.isel_spec.specs.declared.small_form.words.Base.{Base}
+use Rattle.isel_spec.specs.declared.small_form.words.Base.TheVariants.{Binary, Hexadecimal}
 use Rattle.isel_spec.specs.File.{stays_in, all_stay_in}
 use Rattle.isel_spec.specs.Text.{literal, constant, number, width}
-use Rattle.isel_spec.specs.Form.{Binding, where_true, input_named, leaf, option_or, operator, well_sorted, term_of, operands_of}
+use Rattle.isel_spec.specs.Form.{Binding, where_true, input_named, leaf, option_or, operator, well_sorted, term_of}
+use Rattle.isel_spec.specs.Form.{operands_of}
 
 abbrev sorts : List Binding → List Sort
 sorts scope = map (λ b. b.1) scope
@@ -35,7 +37,8 @@ where_some : {A : Type 0} (b : Bool) (x y : A) → where_true b x ≡ Some y →
 where_some true x y e = same_Some x y e
 where_some false x y e = absurd (none-some y e)
 
-constant-stays : (scope : List Binding) (base : Base) (bytes : List ℕ) (o : Op) → constant base bytes ≡ Some o → Stays scope o
+constant-stays : (scope : List Binding) (base : Base) (bytes : List ℕ) (o : Op) → constant base bytes ≡ Some o
+    → Stays scope o
 unfolding stays_in
 constant-stays scope base bytes o e =
     option_and_then_some _ (width base (length bytes)) o e (λ w _ f. by_number w (number base bytes) f)
@@ -53,7 +56,8 @@ literal-stays scope (hash ∷ base ∷ digits) o e = by_base _ _ e
     by_hex true f = constant-stays scope Hexadecimal digits o f
     by_hex false f = absurd (none-some o f)
 
-    by_base : (b c : Bool) → cond b (constant Binary digits) (cond c (constant Hexadecimal digits) None) ≡ Some o → Stays scope o
+    by_base : (b c : Bool) → cond b (constant Binary digits) (cond c (constant Hexadecimal digits) None) ≡ Some o
+        → Stays scope o
     by_base true c f = constant-stays scope Binary digits o f
     by_base false c f = by_hex c f
 
@@ -65,7 +69,10 @@ operator-stays scope bytes o e = by_word _ _ _ _ _ _ e
     plain p h f = subst (Stays scope) (same_Some p o f) h
 
     by_word : (a b c d f g : Bool) →
-        cond a (Some op.BvNot) (cond b (Some op.BvAnd) (cond c (Some op.BvOr) (cond d (Some op.BvXor) (cond f (Some op.BvAdd) (cond g (Some op.BvSub) None))))) ≡ Some o → Stays scope o
+        cond a (Some op.BvNot)
+        (cond b (Some op.BvAnd)
+        (cond c (Some op.BvOr) (cond d (Some op.BvXor) (cond f (Some op.BvAdd) (cond g (Some op.BvSub) None)))))
+        ≡ Some o → Stays scope o
     by_word true b c d f g e = plain op.BvNot (λ ts h. h) e
     by_word false true c d f g e = plain op.BvAnd (λ ts h. h) e
     by_word false false true d f g e = plain op.BvOr (λ ts h. h) e
@@ -81,9 +88,11 @@ input-place n [] name o e = absurd (none-some o e)
 input-place n (b ∷ scope) name o e = by_name (bytes_eq b.0 name) e (input-place (n + 1) scope name o)
   where
     by_name : (same : Bool) → cond same (Some (op.Input n b.1)) (input_named (n + 1) scope name) ≡ Some o →
-        (input_named (n + 1) scope name ≡ Some o → (k : ℕ) × (s : Sort) × (o ≡ op.Input (n + 1 + k) s) × (slice_get (sorts scope) k ≡ Some s)) →
+        (input_named (n + 1) scope name ≡ Some o
+        → (k : ℕ) × (s : Sort) × (o ≡ op.Input (n + 1 + k) s) × (slice_get (sorts scope) k ≡ Some s)) →
         (k : ℕ) × (s : Sort) × (o ≡ op.Input (n + k) s) × (slice_get (sorts (b ∷ scope)) k ≡ Some s)
-    by_name true f rest = (zero, b.1, sym (same_Some (op.Input n b.1) o f) ∙ ap (λ k. op.Input k b.1) (omega arith), refl)
+    by_name true f rest =
+        (zero, b.1, sym (same_Some (op.Input n b.1) o f) ∙ ap (λ k. op.Input k b.1) (omega arith), refl)
     by_name false f rest =
         let later = rest f in
         (suc later.0, later.1, later.2 ∙ ap (λ k. op.Input k later.1) (omega arith), later.3)
@@ -111,24 +120,30 @@ no_operands : (scope : List Binding) → all_stay_in (sorts scope) term.End ≡ 
 unfolding all_stay_in
 no_operands scope = refl
 
-both_stay : (scope : List Binding) (t : Term) (ts : Operands) → stays_in (sorts scope) t ≡ true → all_stay_in (sorts scope) ts ≡ true → all_stay_in (sorts scope) (term.Then t ts) ≡ true
+both_stay : (scope : List Binding) (t : Term) (ts : Operands) → stays_in (sorts scope) t ≡ true
+    → all_stay_in (sorts scope) ts ≡ true → all_stay_in (sorts scope) (term.Then t ts) ≡ true
 unfolding all_stay_in
 both_stay scope t ts e f = rw (e, f) refl
 
 mutual
-  pub term-stays : (scope : List Binding) (t : Tree) (x : Term) → term_of scope t ≡ Some x → stays_in (sorts scope) x ≡ true
+  pub term-stays : (scope : List Binding) (t : Tree) (x : Term) → term_of scope t ≡ Some x
+      → stays_in (sorts scope) x ≡ true
   term-stays scope (Word first word) x e =
       option_and_then_some _ (leaf scope word) x e
-      (λ o is made. subst (λ y. stays_in (sorts scope) y ≡ true) (well_sorted-is (Apply o term.End) x made) (leaf-stays scope word o is term.End (no_operands scope)))
+      (λ o is made. subst (λ y. stays_in (sorts scope) y ≡ true) (well_sorted-is (Apply o term.End) x made)
+      (leaf-stays scope word o is term.End (no_operands scope)))
   term-stays scope (Branch from to End) x e = absurd (none-some x e)
   term-stays scope (Branch from to (Then (Branch f u ms) arguments)) x e = absurd (none-some x e)
   term-stays scope (Branch from to (Then (Word f word) arguments)) x e =
       option_and_then_some _ (operator word) x e
       (λ o is rest. option_and_then_some _ (operands_of scope arguments) x rest
-      (λ ts are made. subst (λ y. stays_in (sorts scope) y ≡ true) (well_sorted-is (Apply o ts) x made) (operator-stays scope word o is ts (operands-stay scope arguments ts are))))
+      (λ ts are made. subst (λ y. stays_in (sorts scope) y ≡ true) (well_sorted-is (Apply o ts) x made)
+      (operator-stays scope word o is ts (operands-stay scope arguments ts are))))
 
-  operands-stay : (scope : List Binding) (ts : Trees) (xs : Operands) → operands_of scope ts ≡ Some xs → all_stay_in (sorts scope) xs ≡ true
-  operands-stay scope End xs e = subst (λ y. all_stay_in (sorts scope) y ≡ true) (same_Some term.End xs e) (no_operands scope)
+  operands-stay : (scope : List Binding) (ts : Trees) (xs : Operands) → operands_of scope ts ≡ Some xs
+      → all_stay_in (sorts scope) xs ≡ true
+  operands-stay scope End xs e =
+      subst (λ y. all_stay_in (sorts scope) y ≡ true) (same_Some term.End xs e) (no_operands scope)
   operands-stay scope (Then t ts) xs e =
       option_and_then_some _ (term_of scope t) xs e
       (λ first is rest. option_and_then_some _ (operands_of scope ts) xs rest

@@ -1,5 +1,7 @@
 -- Terms as they are made, and names in scope.
-use Rattle.std.proofs.Common.{◌≡◌, ℕ, ◌<◌, List, [], ◌∷◌, drop, length, zero, suc, true, Bool, refl, ap, sym, ◌∙◌, subst, Option, Some, None, Result, Err, IsSome, is_some, option_and_then, unwrap_or, ◌≤◌, arith}
+use Rattle.std.proofs.Common.{◌≡◌, ℕ, ◌<◌, List, [], ◌∷◌, drop, length, zero, suc, true, Bool, refl, ap, sym, ◌∙◌}
+use Rattle.std.proofs.Common.{subst, Option, Some, None, Result, Err, IsSome, is_some, option_and_then, unwrap_or, ◌≤◌}
+use Rattle.std.proofs.Common.{arith}
 use Rattle.std.specs.Prelude.{MatchOption}
 use Rattle.std.specs.List.{slice_get}
 use Rattle.std.specs.Str.{bytes_eq}
@@ -16,11 +18,12 @@ use Rattle.bv_terms.specs.Table.{Table, IsTable, term_at, term_in, terms_of, ope
 use Rattle.bv_terms.proofs.TableLemmas.{length-terms_of}
 use Rattle.isel_spec.specs.Fault.{first_fault}
 use Rattle.isel_spec.specs.Form.{Binding, input_named, well_sorted}
-use Rattle.isel_spec.specs.Reading.{Tells, Extends}
+use Rattle.isel_spec.specs.Reading.{Tells, KeepsTerms}
 
 -- ---- names in scope
 
-pub named_here : (m n : ℕ) (scope : List Binding) (b : Binding) (word : List ℕ) → slice_get scope n ≡ Some b → bytes_eq b.0 word ≡ true →
+pub named_here : (m n : ℕ) (scope : List Binding) (b : Binding) (word : List ℕ) → slice_get scope n ≡ Some b
+    → bytes_eq b.0 word ≡ true →
     input_named m (drop n scope) word ≡ Some (op.Input m b.1)
 named_here m n [] b word e t = absurd (none-some b e)
 named_here m zero (c ∷ scope) b word e t = rw (same_Some c b e, t) refl
@@ -34,39 +37,45 @@ well_sorted-some t e = rw e refl
 pub well_sorted-none : (t : Term) → sort_of t ≡ None → well_sorted t ≡ None
 well_sorted-none t e = rw e refl
 
-pub term_at-sorted : (table : Table) → IsTable table → (at : TermId) → at.0 < length table.nodes → IsSome (sort_of (term_at table at))
+pub term_at-sorted : (table : Table) → IsTable table → (at : TermId) → at.0 < length table.nodes
+    → IsSome (sort_of (term_at table at))
 term_at-sorted table is at h =
     let some = Apply (op.Bits 0 0) Rattle.bv_terms.specs.Term.End in
     let inside : at.0 < length (terms_of table) = subst (λ n. at.0 < n) (sym (length-terms_of table)) h in
     let here = slice_get-get_or (terms_of table) at.0 some inside in
     rw here (is.well_sorted at.0 _ here)
 
-refused-sort : (o : Op) (sorts : Option (List Sort)) (f : MakeFault) → option_and_then (refusal o) sorts ≡ Some f → option_and_then (op_sort o) sorts ≡ None
+refused-sort : (o : Op) (sorts : Option (List Sort)) (f : MakeFault) → option_and_then (refusal o) sorts ≡ Some f
+    → option_and_then (op_sort o) sorts ≡ None
 refused-sort o None f e = refl
 refused-sort o (Some ss) f e = rw e refl
 
 pub refused-none : (table : Table) (o : Op) (args : List TermId) (f : MakeFault) → make_refusal table o args ≡ Some f →
     well_sorted (Apply o (operands (terms_of table) args)) ≡ None
 unfolding sort_of
-refused-none table o args f e = well_sorted-none (Apply o (operands (terms_of table) args)) (refused-sort o (sorts_of (operands (terms_of table) args)) f e)
+refused-none table o args f e =
+    well_sorted-none (Apply o (operands (terms_of table) args))
+    (refused-sort o (sorts_of (operands (terms_of table) args)) f e)
 
 -- every fault but want of memory refuses
-pub refused-tells : {X : Type 0} (Read : X → Type 0) (Refused : Type 0) (f : MakeFault) → ((f ≡ make.NoMemory → ⊥) → Refused) → Tells (Err (first_fault f)) Read Refused
+pub refused-tells : {X : Type 0} (Read : X → Type 0) (Refused : Type 0) (f : MakeFault)
+    → ((f ≡ make.NoMemory → ⊥) → Refused) → Tells (Err (first_fault f)) Read Refused
 refused-tells Read Refused make.Arity h = h (λ e. cc)
 refused-tells Read Refused (make.Sorts place) h = h (λ e. cc)
 refused-tells Read Refused make.Index h = h (λ e. cc)
 refused-tells Read Refused make.NoMemory h = tt
 
 pub refused-other : (o : Option MakeFault) (fault : MakeFault) → (fault ≡ make.NoMemory → ⊥) →
-    MatchOption o (fault ≡ make.NoMemory) (λ f. ◌≡◌ {A = Result TermId MakeFault} (Err fault) (Err f)) → (f : MakeFault) × (o ≡ Some f)
+    MatchOption o (fault ≡ make.NoMemory) (λ f. ◌≡◌ {A = Result TermId MakeFault} (Err fault) (Err f))
+    → (f : MakeFault) × (o ≡ Some f)
 refused-other None fault other h = absurd (other h)
 refused-other (Some f) fault other h = (f, refl)
 
-pub extends-same : (table : Table) → Extends table table
-extends-same table = record { pointer = refl; longer = omega arith; kept = λ at h. refl }
+pub keeps-same : (table : Table) → KeepsTerms table table
+keeps-same table = record { pointer = refl; longer = omega arith; kept = λ at h. refl }
 
-pub extends-trans : (a b c : Table) → Extends a b → Extends b c → Extends a c
-extends-trans a b c first second = record {
+pub keeps-trans : (a b c : Table) → KeepsTerms a b → KeepsTerms b c → KeepsTerms a c
+keeps-trans a b c first second = record {
   pointer = second.pointer ∙ first.pointer;
   longer = omega (arith, first.longer, second.longer);
   kept = λ at h. second.kept at (omega (arith, first.longer)) ∙ first.kept at h;

@@ -3,8 +3,8 @@ use Rattle.bv_terms.specs.declared.op.MakeFault.{MakeFault}
 use Rattle.bv_terms.specs.declared.op.MakeFault.TheVariants as make
 use Rattle.sexp_read.specs.declared.fault.SexpFault.{SexpFault}
 use Rattle.sexp_read.specs.declared.fault.SexpFault.TheVariants as read
-use Rattle.isel_spec.specs.declared.fault.FirstFault.{FirstFault}
-use Rattle.isel_spec.specs.declared.fault.FirstFault.TheVariants.{Outside, NoMemory}
+use Rattle.isel_spec.specs.declared.small_form.fault.FirstFault.{FirstFault}
+use Rattle.isel_spec.specs.declared.small_form.fault.FirstFault.TheVariants.{Outside, NoMemory}
 
 abbrev pub first_fault : MakeFault → FirstFault
 first_fault make.Arity = Outside

@@ -70,7 +70,8 @@ unfoldable mutual
 -- results that are in the table, and whose inputs are the definition's
 abbrev pub are_sound : Table → List Sort → List TermId → Bool
 are_sound table sorts results =
-    list_all (λ (at : TermId). nat_lt at.0 (length table.nodes) && stays_in sorts (term_in (terms_of table) at.0)) results
+    list_all (λ (at : TermId). nat_lt at.0 (length table.nodes) && stays_in sorts (term_in (terms_of table) at.0))
+    results
 
 abbrev pub is_between : ℕ → ℕ → ℕ → Bool
 is_between low high n = nat_le low n && nat_le n high
@@ -82,7 +83,8 @@ is_sound_op table e =
 
 abbrev pub is_sound_goal : Table → List ℕ × GoalDef → Bool
 is_sound_goal table e =
-    nat_le (length e.1.args) 4 && is_between 1 3 (length e.1.results) && are_sound table (map (λ a. a.1) e.1.args) e.1.results
+    nat_le (length e.1.args) 4 && is_between 1 3 (length e.1.results)
+    && are_sound table (map (λ a. a.1) e.1.args) e.1.results
 
 -- what each `Spec` keeps: one width of pointers, the limits on numbers, and results whose inputs are their definition's
 abbrev pub is_sound : ℕ → Table → List (List ℕ × OpDef) → List (List ℕ × GoalDef) → Bool

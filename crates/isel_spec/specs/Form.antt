@@ -1,10 +1,13 @@
 -- The small form of a file, read off the trees of its text: one equation a line of the grammar.
 --
---   file      := (isel-spec 1 P) item*            P 1 to 64; one to six operations and one goal, in any order
+--   file      := (isel-spec 1 P) item*            P 1 to 64; one to six operations and one goal, in any order,
+--                                                 under names that differ
 --   item      := (op NAME (arg*) () (TERM)) | (goal NAME (garg*) COST (TERM))
 --   arg       := (NAME SORT)      garg := (reg NAME SORT)      SORT := (_ BitVec W), W 1 to 64
 --   TERM      := NAME | literal | (OPERATOR TERM*)             well-sorted
-use Rattle.std.specs.Prelude.{◌≡◌, ℕ, ◌+◌, ◌^◌, ◌≤◌, List, [], ◌∷◌, length, map, sum, Option, Some, None, Bool, true, false, ◌&&◌, not, nat_le, if◌then◌else◌, codes, option_and_then, option_map, is_some, Contains, ◌⊎◌, IsTrue}
+use Rattle.std.specs.Prelude.{◌≡◌, ℕ, ◌+◌, ◌^◌, ◌≤◌, List, [], ◌∷◌, ◌++◌, length, map, sum, Option, Some, None}
+use Rattle.std.specs.Prelude.{Bool, true, false, ◌&&◌, not, nat_le, if◌then◌else◌, codes, Contains, IsTrue}
+use Rattle.std.specs.Prelude.{option_and_then, option_map, is_some}
 use Rattle.std.specs.List.{list_all, list_any}
 use Rattle.std.specs.Str.{bytes_eq}
 use Rattle.bv_terms.specs.declared.op.Op.{Op}
@@ -13,12 +16,13 @@ use Rattle.bv_terms.specs.declared.value.Sort.{Sort}
 use Rattle.bv_terms.specs.declared.value.Sort.TheVariants as sort
 use Rattle.bv_terms.specs.Term as term
 use Rattle.bv_terms.specs.Term.{Term, Operands, Apply}
-use Rattle.bv_terms.specs.Sorts.{sort_of}
+use Rattle.bv_terms.specs.Sorts.{sort_of, width_of}
+use Rattle.bv_terms.specs.Subterm.{IsSubterm}
 use Rattle.sexp_read.specs.Tree.{Tree, Trees, Word, Branch, End, Then, flatten, depth, depth_limit}
 use Rattle.sexp_read.specs.Token.{is_text_byte, tokens}
 use Rattle.isel_spec.specs.declared.definitions.Kind.TheVariants as kind
-use Rattle.isel_spec.specs.declared.subject.Subject.{Subject}
-use Rattle.isel_spec.specs.declared.subject.Subject.TheVariants.{Operation, Goal}
+use Rattle.isel_spec.specs.declared.small_form.subject.Subject.{Subject}
+use Rattle.isel_spec.specs.declared.small_form.subject.Subject.TheVariants.{Operation, Goal}
 use Rattle.isel_spec.specs.File as file
 use Rattle.isel_spec.specs.File.{File, is_between}
 use Rattle.isel_spec.specs.Text.{numeral, is_name, literal, each}
@@ -46,7 +50,8 @@ Binding = List ℕ × Sort
 -- the input that a name stands for, where the names from that number on are these
 abbrev pub input_named : ℕ → List Binding → List ℕ → Option Op
 input_named number [] name = None
-input_named number (b ∷ bs) name = if bytes_eq b.0 name then Some (op.Input number b.1) else input_named (number + 1) bs name
+input_named number (b ∷ bs) name =
+    if bytes_eq b.0 name then Some (op.Input number b.1) else input_named (number + 1) bs name
 
 abbrev pub option_or : {A : Type 0} → Option A → Option A → Option A
 option_or (Some x) other = Some x
@@ -66,12 +71,14 @@ abbrev mutual
   term_of scope (Branch from to End) = None
   term_of scope (Branch from to (Then (Branch _ _ _) arguments)) = None
   term_of scope (Branch from to (Then (Word _ word) arguments)) =
-      option_and_then (λ o. option_and_then (λ ts. well_sorted (Apply o ts)) (operands_of scope arguments)) (operator word)
+      option_and_then (λ o. option_and_then (λ ts. well_sorted (Apply o ts)) (operands_of scope arguments))
+      (operator word)
 
   pub operands_of : List Binding → Trees → Option Operands
   operands_of scope End = Some term.End
   operands_of scope (Then t ts) =
-      option_and_then (λ first. option_and_then (λ rest. Some (term.Then first rest)) (operands_of scope ts)) (term_of scope t)
+      option_and_then (λ first. option_and_then (λ rest. Some (term.Then first rest)) (operands_of scope ts))
+      (term_of scope t)
 
 -- How a tree is looked at: the bytes of a word, and the members of a list. What stands for trees is
 -- looked at in the same way.
@@ -134,7 +141,9 @@ application_in view node = do
 -- `(_ BitVec W)`
 abbrev pub sort_from : List ℕ → List ℕ → List ℕ → Option Sort
 sort_from underscore family width =
-    if bytes_eq underscore (codes "_") && bytes_eq family (codes "BitVec") then option_map (λ w. sort.Bits w) (numeral 1 64 width) else None
+    if bytes_eq underscore (codes "_") && bytes_eq family (codes "BitVec")
+    then option_map (λ w. sort.Bits w) (numeral 1 64 width)
+    else None
 
 abbrev pub sort_in : {N : Type 0} → View N → N → Option Sort
 sort_in view node = do
@@ -202,27 +211,36 @@ parts_in subject view nodes = do
   result ← one_of results
   where_true (is_name name) (record { name = name; args = args; cost = cost; result = result })
 
--- what an item defines
-pub record Definition : Type 0 where
-  pub subject : Subject
-  pub name : List ℕ
-  pub args : List Sort
-  pub cost : ℕ
-  pub result : Term
+-- the arguments of a definition, and its result
+abbrev pub body_in : Subject → List Tree → Tree → Option (List Binding × Term)
+body_in subject args result = do
+  scope ← option_and_then scope_of (each (binding_in subject tree_view) args)
+  term ← term_of scope result
+  Some (scope, term)
 
-abbrev pub definition_with : Subject → Parts Tree → List Binding → Option Definition
-definition_with subject parts bs =
-    option_map (λ t. record { subject = subject; name = parts.name; args = map (λ b. b.1) bs; cost = parts.cost; result = t }) (term_of bs parts.result)
+-- `NAME (arg*) () (TERM)`
+abbrev pub operation_in : List Tree → Option file.Operation
+operation_in trees = do
+  parts ← parts_in Operation tree_view trees
+  body ← body_in Operation parts.args parts.result
+  Some (record { name = parts.name; args = map (λ b. b.1) body.0; attrs = []; results = body.1 ∷ [] })
+
+-- `NAME (garg*) COST (TERM)`
+abbrev pub goal_in : List Tree → Option file.Goal
+goal_in trees = do
+  parts ← parts_in Goal tree_view trees
+  body ← body_in Goal parts.args parts.result
+  Some (record {
+    name = parts.name;
+    kinds = map (λ b. kind.Reg) body.0;
+    args = map (λ b. b.1) body.0;
+    cost = parts.cost;
+    results = body.1 ∷ [];
+  })
 
 abbrev pub subject_of : List ℕ → Option Subject
-subject_of head = if bytes_eq head (codes "op") then Some Operation else if bytes_eq head (codes "goal") then Some Goal else None
-
--- what the members after the head define
-abbrev pub defined : Subject → List Tree → Option Definition
-defined subject trees = do
-  parts ← parts_in subject tree_view trees
-  scope ← option_and_then scope_of (each (binding_in subject tree_view) parts.args)
-  definition_with subject parts scope
+subject_of head =
+    if bytes_eq head (codes "op") then Some Operation else if bytes_eq head (codes "goal") then Some Goal else None
 
 -- `(op ..)` or `(goal ..)`, as what it defines and the members after the head
 abbrev pub headed_in : {N : Type 0} → View N → N → Option (Subject × List N)
@@ -233,25 +251,31 @@ headed_in view node = do
   subject ← subject_of head
   Some (subject, first.1)
 
-abbrev pub definition_in : Tree → Option Definition
-definition_in tree = headed_in tree_view tree >>= λ headed. defined headed.0 headed.1
+-- no definition of the file has the name
+abbrev pub is_new : File → List ℕ → Bool
+is_new f name =
+    not (list_any (bytes_eq name) (map (λ (o : file.Operation). o.name) f.ops))
+    && not (list_any (bytes_eq name) (map (λ (g : file.Goal). g.name) f.goals))
 
-abbrev pub operations : List Definition → List file.Operation
-operations [] = []
-operations (d ∷ ds) = operation_with d.subject d (operations ds)
-  where
-    operation_with : Subject → Definition → List file.Operation → List file.Operation
-    operation_with Operation d os = record { name = d.name; args = d.args; attrs = []; results = d.result ∷ [] } ∷ os
-    operation_with Goal d os = os
+-- the file with one more operation or goal, under a new name
+abbrev pub with_operation : File → file.Operation → Option File
+with_operation f o = where_true (is_new f o.name) (record f { ops = f.ops ++ o ∷ [] })
 
-abbrev pub goals : List Definition → List file.Goal
-goals [] = []
-goals (d ∷ ds) = goal_with d.subject d (goals ds)
-  where
-    goal_with : Subject → Definition → List file.Goal → List file.Goal
-    goal_with Operation d gs = gs
-    goal_with Goal d gs =
-        record { name = d.name; kinds = map (λ s. kind.Reg) d.args; args = d.args; cost = d.cost; results = d.result ∷ [] } ∷ gs
+abbrev pub with_goal : File → file.Goal → Option File
+with_goal f g = where_true (is_new f g.name) (record f { goals = f.goals ++ g ∷ [] })
+
+-- the file with what the members after a head define
+abbrev pub with_members : Subject → File → List Tree → Option File
+with_members Operation f trees = operation_in trees >>= with_operation f
+with_members Goal f trees = goal_in trees >>= with_goal f
+
+-- the file with what an item defines
+abbrev pub with_item : File → Tree → Option File
+with_item f tree = headed_in tree_view tree >>= λ headed. with_members headed.0 f headed.1
+
+abbrev pub with_items : File → List Tree → Option File
+with_items f [] = Some f
+with_items f (tree ∷ trees) = with_item f tree >>= λ more. with_items more trees
 
 -- `(isel-spec 1 P)`
 abbrev pub pointer_in : {N : Type 0} → View N → N → Option ℕ
@@ -263,43 +287,24 @@ pointer_in view node = do
   pointer ← view.word parts.2
   if bytes_eq head (codes "isel-spec") && bytes_eq version (codes "1") then numeral 1 64 pointer else None
 
--- how many bits a value of the sort has
-abbrev pub bits_of : Sort → ℕ
-bits_of sort.Bool = 1
-bits_of (sort.Bits w) = w
-bits_of sort.Mem = 0
-
--- one to six operations and one goal, with at most 12 bits of inputs, under names that differ
+-- one to six operations, and one goal with at most 12 bits of inputs
 abbrev pub is_small : List file.Operation → List file.Goal → Bool
 is_small os [] = false
-is_small os (g ∷ []) =
-    is_between 1 6 (length os) && nat_le (sum (map bits_of g.args)) 12 && differ (g.name ∷ map (λ (o : file.Operation). o.name) os)
+is_small os (g ∷ []) = is_between 1 6 (length os) && nat_le (sum (map width_of g.args)) 12
 is_small os (g ∷ h ∷ gs) = false
-
-abbrev pub file_with : ℕ → List Definition → Option File
-file_with pointer ds =
-    where_true (is_small (operations ds) (goals ds)) (record { pointer = pointer; ops = operations ds; goals = goals ds })
 
 -- the file that the trees of a text are
 abbrev pub file_in : List Tree → Option File
 file_in trees = do
   first ← first_of trees
   pointer ← pointer_in tree_view first.0
-  definitions ← each definition_in first.1
-  file_with pointer definitions
+  f ← with_items (record { pointer = pointer; ops = []; goals = [] }) first.1
+  where_true (is_small f.ops f.goals) f
 
--- a term stands in a term
-unfoldable mutual
-  pub StandsIn : Term → Term → Type 0
-  StandsIn s (Apply o ts) = (s ≡ Apply o ts) ⊎ StandsAmong s ts
-
-  pub StandsAmong : Term → Operands → Type 0
-  StandsAmong s term.End = ⊥
-  StandsAmong s (term.Then t ts) = StandsIn s t ⊎ StandsAmong s ts
-
--- at most 256 different terms stand in the results
+-- the results have at most 256 different subterms
 abbrev pub HasFewTerms : List Term → Type 0
-HasFewTerms results = (ts : List Term) × (length ts ≤ 256) × ((t s : Term) → Contains results t → StandsIn s t → Contains ts s)
+HasFewTerms results =
+    (ts : List Term) × (length ts ≤ 256) × ((t s : Term) → Contains results t → IsSubterm s t → Contains ts s)
 
 -- the bytes are a file of the small form, namely this one
 pub record IsFirstFile (bytes : List ℕ) (f : File) : Type 0 where

@@ -2,7 +2,7 @@
 use Rattle.std.specs.Prelude.{ℕ, List}
 use Rattle.sexp_read.specs.declared.forest.Item.{Item}
 use Rattle.sexp_read.specs.Forest.{atom_at, children_at}
-use Rattle.isel_spec.specs.declared.parts.Parts as declared
+use Rattle.isel_spec.specs.declared.small_form.parts.Parts as declared
 use Rattle.isel_spec.specs.Form.{View, Parts}
 
 abbrev pub item_view : List ℕ → List Item → View ℕ

@@ -6,4 +6,4 @@ pub mod Items
 pub mod Reading
 pub mod Fault
 pub mod Nodes
-pub mod Defined
+pub mod Tables

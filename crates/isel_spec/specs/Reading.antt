@@ -3,8 +3,8 @@ use Rattle.std.specs.Prelude.{◌≡◌, ℕ, ◌<◌, ◌≤◌, List, length, 
 use Rattle.bv_terms.specs.declared.op.TermId.{TermId}
 use Rattle.bv_terms.specs.Term.{Term, Operands, End, Then}
 use Rattle.bv_terms.specs.Table.{Table, term_at}
-use Rattle.isel_spec.specs.declared.fault.FirstFault.{FirstFault}
-use Rattle.isel_spec.specs.declared.fault.FirstFault.TheVariants.{Outside, NoMemory}
+use Rattle.isel_spec.specs.declared.small_form.fault.FirstFault.{FirstFault}
+use Rattle.isel_spec.specs.declared.small_form.fault.FirstFault.TheVariants.{Outside, NoMemory}
 
 -- what was read, or that there is nothing to be read; want of memory says nothing
 abbrev pub Tells : {X : Type 0} → Result X FirstFault → (X → Type 0) → Type 0 → Type 0
@@ -13,7 +13,7 @@ Tells (Err Outside) Read Refused = Refused
 Tells (Err NoMemory) Read Refused = Unit {0}
 
 -- a later state of a table: it has the terms that it had
-pub record Extends (old new : Table) : Type 0 where
+pub record KeepsTerms (old new : Table) : Type 0 where
   pub pointer : new.pointer ≡ old.pointer
   pub longer : length old.nodes ≤ length new.nodes
   pub kept : (at : TermId) → at.0 < length old.nodes → term_at new at ≡ term_at old at

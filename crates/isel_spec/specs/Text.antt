@@ -1,11 +1,13 @@
--- The words of a file's text: numerals, names and literals. Literals are those of SMT-LIB 2.6, section 3.1; the rest is this project's own.
-use Rattle.std.specs.Prelude.{ℕ, ◌+◌, ◌-◌, ◌*◌, ◌^◌, List, [], ◌∷◌, length, fold, map, Option, Some, None, Bool, true, false, ◌&&◌, ◌||◌, ◌==◌, not, nat_le, if◌then◌else◌, codes, option_and_then, option_map}
+-- The words of a file's text: numerals, names and literals. Literals are those of SMT-LIB 2.6, section 3.1; the rest is
+-- this project's own.
+use Rattle.std.specs.Prelude.{ℕ, ◌+◌, ◌-◌, ◌*◌, ◌^◌, List, [], ◌∷◌, length, fold, map, Option, Some, None, Bool, true}
+use Rattle.std.specs.Prelude.{false, ◌&&◌, ◌||◌, ◌==◌, not, nat_le, if◌then◌else◌, codes, option_and_then, option_map}
 use Rattle.std.specs.List.{list_all}
 use Rattle.std.specs.Str.{bytes_eq}
 use Rattle.bv_terms.specs.declared.op.Op.{Op}
 use Rattle.bv_terms.specs.declared.op.Op.TheVariants as op
-use Rattle.isel_spec.specs.declared.words.Base.{Base}
-use Rattle.isel_spec.specs.declared.words.Base.TheVariants.{Binary, Hexadecimal}
+use Rattle.isel_spec.specs.declared.small_form.words.Base.{Base}
+use Rattle.isel_spec.specs.declared.small_form.words.Base.TheVariants.{Binary, Hexadecimal}
 use Rattle.isel_spec.specs.File.{is_between}
 
 abbrev pub is_digit : ℕ → Bool

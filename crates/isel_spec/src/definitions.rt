@@ -1,3 +1,6 @@
+//! What a file says of an operation and of a goal, over one table of terms. The results are nodes of
+//! that table, and their inputs are numbered as the definition's arguments are.
+
 use bv_terms::{Sort, TermId};
 use collections::Seq;
 

@@ -1,26 +1,18 @@
 //! What a file says: the meanings of IR operations and of target instructions (goals).
+//!
+//! `definitions` has `OpDef`, `GoalDef` and `Kind`, what a file says of an operation and of a goal;
+//! `spec` has `Spec`, the whole file over one table of terms. `small_form` reads a file: `read_first`
+//! answers a `Spec` or a `FirstFault`, and `one_first_file` says that bytes are at most one file. What
+//! a file says as trees, and when it is sound, stands in `specs/File`; which bytes are which file in
+//! `specs/Form` and `specs/Text`. The format is this project's own, with the literals of SMT-LIB 2.6.
 #![tactic(auto)]
 
-mod defined;
-mod definition;
 mod definitions;
-mod entries;
-mod fault;
-mod few;
-mod file;
-mod first;
-mod part_lists;
-mod parts;
-mod scope;
-mod small;
+mod small_form;
 mod spec;
-mod subject;
-mod term;
-mod words;
 
 pub use definitions::{GoalDef, Kind, OpDef};
-pub use fault::FirstFault;
-pub use first::{one_first_file, read_first};
+pub use small_form::{FILE_LIMIT, FirstFault, one_first_file, read_first};
 pub use spec::Spec;
 
 #[cfg(test)]

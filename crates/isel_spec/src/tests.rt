@@ -1,10 +1,12 @@
-use crate::fault::FirstFault;
-use crate::first::read_first;
+//! Which bytes are read, by cases one for each cause of refusal, and what a file that was read says.
+
+use crate::{FILE_LIMIT, FirstFault, Kind, read_first};
+use bv_terms::{Op, Sort, TermId};
 use std::alloc::{AllocError, Global};
 use std::test::Fail;
 
-fn is_read(alloc: Global, text: &str) -> Result<bool, AllocError> {
-    match read_first(alloc, text.as_bytes()) {
+fn is_read(alloc: Global, bytes: &[u8]) -> Result<bool, AllocError> {
+    match read_first(alloc, bytes) {
         Ok(_) => Ok(true),
         Err(FirstFault::Outside) => Ok(false),
         Err(FirstFault::NoMemory) => Err(AllocError),
@@ -12,142 +14,327 @@ fn is_read(alloc: Global, text: &str) -> Result<bool, AllocError> {
 }
 
 #[test]
-fn files_of_the_form_are_read_and_no_others(rt: HostRuntime) -> Result<(), Fail> {
+fn bytes_of_the_form_are_read_and_no_others(rt: HostRuntime) -> Result<(), Fail> {
     let alloc = rt.alloc();
+    let cases: [(&str, &[u8], bool); 16] = [
+        (
+            "the goal first",
+            b"(isel-spec 1 64)(goal g()0(#xfF))\t( op o ( ) ( ) ( #b10 ) )\r\n",
+            true,
+        ),
+        (
+            "a narrow pointer",
+            b"(isel-spec 1 1) (op o () () (#b1)) (goal g () 0 (#b1))",
+            true,
+        ),
+        ("no byte", b"", false),
+        (
+            "a comment",
+            b"(isel-spec 1 32) (op o () () (#b1)) (goal g () 0 (#b1)) ; c",
+            false,
+        ),
+        (
+            "no text",
+            b"(isel-spec 1 32) (op o () () (#b1)) (goal g () 0 (#b1))\0",
+            false,
+        ),
+        (
+            "unclosed",
+            b"(isel-spec 1 32) (op o () () (#b1)) (goal g () 0 (#b1)",
+            false,
+        ),
+        (
+            "stray",
+            b"(isel-spec 1 32) (op o () () (#b1)) (goal g () 0 (#b1)))",
+            false,
+        ),
+        ("257 deep", &[b'('; 257], false),
+        (
+            "a word in place of a list",
+            b"isel-spec (op o () () (#b1)) (goal g () 0 (#b1))",
+            false,
+        ),
+        (
+            "another head",
+            b"(isel 1 32) (op o () () (#b1)) (goal g () 0 (#b1))",
+            false,
+        ),
+        (
+            "another version",
+            b"(isel-spec 01 32) (op o () () (#b1)) (goal g () 0 (#b1))",
+            false,
+        ),
+        (
+            "too wide a pointer",
+            b"(isel-spec 1 65) (op o () () (#b1)) (goal g () 0 (#b1))",
+            false,
+        ),
+        (
+            "no width of a pointer",
+            b"(isel-spec 1 0) (op o () () (#b1)) (goal g () 0 (#b1))",
+            false,
+        ),
+        ("no goal", b"(isel-spec 1 32) (op o () () (#b1))", false),
+        (
+            "no operation",
+            b"(isel-spec 1 32) (goal g () 0 (#b1))",
+            false,
+        ),
+        ("only a head", b"(isel-spec 1 32)", false),
+    ];
+    for (name, bytes, expected) in cases {
+        assert!(rt; is_read(alloc, bytes)? == expected, "{name}");
+    }
+    Ok(())
+}
+
+#[test]
+fn definitions_of_the_form_are_read_and_no_others(rt: HostRuntime) -> Result<(), Fail> {
+    let alloc = rt.alloc();
+    // What follows the head and the operation `(op p () () (#b1))`.
     let cases = [
-        // the form, its items in any order, and any spaces
         (
-            "(isel-spec 1 32)\n(op ior1 ((a (_ BitVec 1)) (b (_ BitVec 1))) () ((bvor a b)))\n(goal or1 ((reg a (_ BitVec 1)) (reg b (_ BitVec 1))) 1 ((bvor a b)))\n",
+            "names as operators",
+            "(op bvand ((bvor (_ BitVec 4))) () ((bvsub bvor #x1))) (goal g () 0 (#b1))",
             true,
         ),
         (
-            "(isel-spec 1 64)(goal g()0(#xfF))\t( op o ( ) ( ) ( #b10 ) )\r\n",
+            "12 bits of inputs",
+            "(goal g ((reg a (_ BitVec 12))) 65535 (a))",
             true,
         ),
         (
-            "(isel-spec 1 1) (op bvand ((bvor (_ BitVec 4))) () ((bvsub bvor #x1))) (goal g ((reg a (_ BitVec 12))) 65535 (a))",
-            true,
-        ),
-        // what is no text of the form
-        ("", false),
-        (
-            "(isel-spec 1 32) (op o () () (#b1)) (goal g () 0 (#b1)) ; a comment",
+            "13 bits of inputs",
+            "(goal g ((reg a (_ BitVec 12)) (reg b (_ BitVec 1))) 0 (a))",
             false,
         ),
         (
-            "(isel-spec 1 32) (op o () () (#b1)) (goal g () 0 (#b1))\0",
+            "two goals",
+            "(goal g () 0 (#b1)) (goal h () 0 (#b1))",
             false,
         ),
         (
-            "(isel-spec 1 32) (op o () () (#b1)) (goal g () 0 (#b1)",
+            "two goals of a name",
+            "(goal g () 0 (#b1)) (goal g () 0 (#b1))",
             false,
         ),
         (
-            "(isel-spec 01 32) (op o () () (#b1)) (goal g () 0 (#b1))",
+            "two operations of a name",
+            "(op p () () (#b1)) (goal g () 0 (#b1))",
             false,
         ),
         (
-            "(isel-spec 1 65) (op o () () (#b1)) (goal g () 0 (#b1))",
+            "a goal and an operation of a name",
+            "(goal p () 0 (#b1))",
             false,
         ),
-        // too many or too few items
-        ("(isel-spec 1 32) (op o () () (#b1))", false),
-        ("(isel-spec 1 32) (goal g () 0 (#b1))", false),
+        ("a word as an item", "o (goal g () 0 (#b1))", false),
+        ("an empty item", "() (goal g () 0 (#b1))", false),
         (
-            "(isel-spec 1 32) (op o () () (#b1)) (goal g () 0 (#b1)) (goal h () 0 (#b1))",
-            false,
-        ),
-        (
-            "(isel-spec 1 32) (op a () () (#b1)) (op b () () (#b1)) (op c () () (#b1)) (op d () () (#b1)) (op e () () (#b1)) (op f () () (#b1)) (op h () () (#b1)) (goal g () 0 (#b1))",
+            "a list as the head of an item",
+            "((op) o () () (#b1)) (goal g () 0 (#b1))",
             false,
         ),
         (
-            "(isel-spec 1 32) (op o () () (#b1)) (goal o () 0 (#b1))",
-            false,
-        ),
-        // definitions of another shape
-        (
-            "(isel-spec 1 32) (op o () ((k (_ BitVec 1))) (#b1)) (goal g () 0 (#b1))",
+            "another head of an item",
+            "(ops o () () (#b1)) (goal g () 0 (#b1))",
             false,
         ),
         (
-            "(isel-spec 1 32) (op o () () (#b1 #b0)) (goal g () 0 (#b1))",
+            "too few parts",
+            "(op o () (#b1)) (goal g () 0 (#b1))",
             false,
         ),
         (
-            "(isel-spec 1 32) (op o () () (#b1)) (goal g () 65536 (#b1))",
+            "too many parts",
+            "(op o () () (#b1) (#b1)) (goal g () 0 (#b1))",
             false,
         ),
         (
-            "(isel-spec 1 32) (op o () () (#b1)) (goal g () 00 (#b1))",
+            "an attribute",
+            "(op o () ((k (_ BitVec 1))) (#b1)) (goal g () 0 (#b1))",
+            false,
+        ),
+        ("no result", "(op o () () ()) (goal g () 0 (#b1))", false),
+        (
+            "two results",
+            "(op o () () (#b1 #b0)) (goal g () 0 (#b1))",
             false,
         ),
         (
-            "(isel-spec 1 32) (op o () () (#b1)) (goal g ((imm a (_ BitVec 1))) 0 (a))",
+            "a result that is no list",
+            "(op o () () #b1) (goal g () 0 (#b1))",
+            false,
+        ),
+        ("too high a cost", "(goal g () 65536 (#b1))", false),
+        ("a cost with a leading zero", "(goal g () 00 (#b1))", false),
+        ("a list as a cost", "(goal g () () (#b1))", false),
+        (
+            "an immediate argument",
+            "(goal g ((imm a (_ BitVec 1))) 0 (a))",
             false,
         ),
         (
-            "(isel-spec 1 32) (op o () () (#b1)) (goal g ((reg a (_ BitVec 13))) 0 (a))",
+            "an argument of no kind",
+            "(goal g ((a (_ BitVec 1))) 0 (a))",
             false,
         ),
         (
-            "(isel-spec 1 32) (op o ((a Bool)) () (#b1)) (goal g () 0 (#b1))",
+            "an argument with a kind",
+            "(op o ((reg a (_ BitVec 1))) () (a)) (goal g () 0 (#b1))",
             false,
         ),
         (
-            "(isel-spec 1 32) (op o ((a (_ BitVec 65))) () (#b1)) (goal g () 0 (#b1))",
+            "a word as an argument",
+            "(op o (a) () (#b1)) (goal g () 0 (#b1))",
             false,
         ),
         (
-            "(isel-spec 1 32) (op o ((a (_ BitVec 1)) (a (_ BitVec 1))) () (#b1)) (goal g () 0 (#b1))",
+            "a list as an argument's name",
+            "(op o (((a) (_ BitVec 1))) () (#b1)) (goal g () 0 (#b1))",
             false,
         ),
         (
-            "(isel-spec 1 32) (op o ((a (_ BitVec 1)) (b (_ BitVec 1)) (c (_ BitVec 1)) (d (_ BitVec 1)) (e (_ BitVec 1))) () (a)) (goal g () 0 (#b1))",
+            "a truth value",
+            "(op o ((a Bool)) () (#b1)) (goal g () 0 (#b1))",
             false,
         ),
         (
-            "(isel-spec 1 32) (op true () () (#b1)) (goal g () 0 (#b1))",
+            "another family of sorts",
+            "(op o ((a (_ FloatingPoint 1))) () (#b1)) (goal g () 0 (#b1))",
             false,
         ),
         (
-            "(isel-spec 1 32) (op aaaaaaaaaaaaaaaaaaaaaaaaaaaaaaaaaaaaaaaaaaaaaaaaaaaaaaaaaaaaaaaaa () () (#b1)) (goal g () 0 (#b1))",
-            false,
-        ),
-        // terms that are none, or not well-sorted
-        (
-            "(isel-spec 1 32) (op o () () (#b)) (goal g () 0 (#b1))",
+            "an argument of 65 bits",
+            "(op o ((a (_ BitVec 65))) () (#b1)) (goal g () 0 (#b1))",
             false,
         ),
         (
-            "(isel-spec 1 32) (op o () () (#x12345678901234567)) (goal g () 0 (#b1))",
+            "an argument of no bits",
+            "(op o ((a (_ BitVec 0))) () (#b1)) (goal g () 0 (#b1))",
             false,
         ),
         (
-            "(isel-spec 1 32) (op o () () (x)) (goal g () 0 (#b1))",
+            "two arguments of a name",
+            "(op o ((a (_ BitVec 1)) (a (_ BitVec 1))) () (a)) (goal g () 0 (#b1))",
+            false,
+        ),
+        ("no name", "(op 1o () () (#b1)) (goal g () 0 (#b1))", false),
+        (
+            "a truth value as a name",
+            "(op true () () (#b1)) (goal g () 0 (#b1))",
             false,
         ),
         (
-            "(isel-spec 1 32) (op o () () ((bvadd #b1 #b11))) (goal g () 0 (#b1))",
+            "`()` as a term",
+            "(op o () () (())) (goal g () 0 (#b1))",
             false,
         ),
         (
-            "(isel-spec 1 32) (op o () () ((bvnot #b1 #b1))) (goal g () 0 (#b1))",
+            "a list as the head of a term",
+            "(op o () () (((bvnot) #b1))) (goal g () 0 (#b1))",
+            false,
+        ),
+        ("no digit", "(op o () () (#b)) (goal g () 0 (#b1))", false),
+        (
+            "another digit",
+            "(op o () () (#b2)) (goal g () 0 (#b1))",
             false,
         ),
         (
-            "(isel-spec 1 32) (op o () () ((bvmul #b1 #b1))) (goal g () 0 (#b1))",
+            "68 bits of digits",
+            "(op o () () (#x12345678901234567)) (goal g () 0 (#b1))",
+            false,
+        ),
+        (
+            "a name of nothing",
+            "(op o () () (x)) (goal g () 0 (#b1))",
+            false,
+        ),
+        (
+            "a name of another definition's",
+            "(op o ((x (_ BitVec 1))) () (x)) (goal g () 0 (x))",
+            false,
+        ),
+        (
+            "no operator",
+            "(op o () () ((bvshl #b1 #b1))) (goal g () 0 (#b1))",
+            false,
+        ),
+        (
+            "two widths",
+            "(op o () () ((bvadd #b1 #b11))) (goal g () 0 (#b1))",
+            false,
+        ),
+        (
+            "too many operands",
+            "(op o () () ((bvnot #b1 #b1))) (goal g () 0 (#b1))",
+            false,
+        ),
+        (
+            "too few operands",
+            "(op o () () ((bvand #b1))) (goal g () 0 (#b1))",
             false,
         ),
     ];
-    for (text, expected) in cases {
-        assert!(rt; is_read(alloc, text)? == expected, "{text}");
+    for (name, items, expected) in cases {
+        let mut text = String::from_str(alloc, "(isel-spec 1 32) (op p () () (#b1)) ")?;
+        text.push_str(items)?;
+        assert!(rt; is_read(alloc, text.as_bytes())? == expected, "{name}");
+    }
+    Ok(())
+}
+
+/// A file with that many operations, the arguments of each, the letters of its goal's name, and bytes
+/// of blanks at the end.
+fn file_of(
+    alloc: Global,
+    ops: u8,
+    args: u8,
+    letters: usize,
+    blanks: usize,
+) -> Result<String, AllocError> {
+    let mut text = String::from_str(alloc, "(isel-spec 1 32) (goal ")?;
+    for _letter in 0..letters {
+        text.push_str("g")?;
+    }
+    text.push_str(" () 0 (#b1))")?;
+    for op in 0..ops {
+        write!(text, "(op o{op} (")?;
+        for arg in 0..args {
+            write!(text, "(a{arg} (_ BitVec 1))")?;
+        }
+        text.push_str(") () (#b1))")?;
+    }
+    for _blank in 0..blanks {
+        text.push_str(" ")?;
+    }
+    Ok(text)
+}
+
+#[test]
+fn limits_are_met_and_no_more(rt: HostRuntime) -> Result<(), Fail> {
+    let alloc = rt.alloc();
+    let room = FILE_LIMIT - file_of(alloc, 1, 0, 1, 0)?.len();
+    let cases = [
+        ("6 operations", 6, 0, 1, 0, true),
+        ("7 operations", 7, 0, 1, 0, false),
+        ("4 arguments", 1, 4, 1, 0, true),
+        ("5 arguments", 1, 5, 1, 0, false),
+        ("a name of 64 letters", 1, 0, 64, 0, true),
+        ("a name of 65 letters", 1, 0, 65, 0, false),
+        ("as many bytes as there may be", 1, 0, 1, room, true),
+        ("a byte more", 1, 0, 1, room + 1, false),
+    ];
+    for (name, ops, args, letters, blanks, expected) in cases {
+        let text = file_of(alloc, ops, args, letters, blanks)?;
+        assert!(rt; is_read(alloc, text.as_bytes())? == expected, "{name}");
     }
     Ok(())
 }
 
 /// A file whose operation has `3 * steps + 1` different subterms, and one more where it is inverted.
-fn file_of(alloc: Global, steps: u8, inverted: bool) -> Result<String, AllocError> {
+fn file_with_terms(alloc: Global, steps: u8, inverted: bool) -> Result<String, AllocError> {
     let mut text = String::from_str(
         alloc,
         "(isel-spec 1 32) (goal g () 0 (#b1)) (op o ((a (_ BitVec 8))) () (",
@@ -172,9 +359,63 @@ fn file_of(alloc: Global, steps: u8, inverted: bool) -> Result<String, AllocErro
 #[test]
 fn a_definition_has_at_most_256_different_subterms(rt: HostRuntime) -> Result<(), Fail> {
     let alloc = rt.alloc();
-    let most = file_of(alloc, 85, false)?;
-    assert!(rt; is_read(alloc, most.as_str())?);
-    let more = file_of(alloc, 85, true)?;
-    assert!(rt; !is_read(alloc, more.as_str())?);
+    let most = file_with_terms(alloc, 85, false)?;
+    assert!(rt; is_read(alloc, most.as_bytes())?);
+    let more = file_with_terms(alloc, 85, true)?;
+    assert!(rt; !is_read(alloc, more.as_bytes())?);
+    Ok(())
+}
+
+#[test]
+fn what_was_read_says_what_the_file_says(rt: HostRuntime) -> Result<(), Fail> {
+    let text = "(isel-spec 1 48) (op dec ((a (_ BitVec 8)) (b (_ BitVec 3))) () ((bvsub a #x01)))
+        (goal inv ((reg x (_ BitVec 3)) (reg y (_ BitVec 8))) 7 ((bvnot y)))";
+    let spec = read_first(rt.alloc(), text.as_bytes())
+        .ok()
+        .ok_or("the bytes are a file")?;
+    assert!(rt; spec.pointer == 48 && spec.terms.pointer() == 48);
+    let nodes: [(Op, &[TermId]); 5] = [
+        (
+            Op::Input {
+                number: 0,
+                sort: Sort::Bits(8),
+            },
+            &[],
+        ),
+        (
+            Op::Bits {
+                width: 8,
+                number: 1,
+            },
+            &[],
+        ),
+        (Op::BvSub, &[TermId(0), TermId(1)]),
+        (
+            Op::Input {
+                number: 1,
+                sort: Sort::Bits(8),
+            },
+            &[],
+        ),
+        (Op::BvNot, &[TermId(3)]),
+    ];
+    assert!(rt; spec.terms.len() == 5);
+    for number in 0..spec.terms.len().min(5) {
+        let (op, args) = spec.terms.node(TermId(number));
+        assert!(rt;
+            *op == nodes[number].0 && args == nodes[number].1,
+            "node {number}"
+        );
+    }
+    assert!(rt; spec.ops.len() == 1 && spec.goals.len() == 1);
+    let (name, dec) = spec.ops.get(0).ok_or("there is an operation")?;
+    assert!(rt; name == "dec" && dec.attrs.is_empty());
+    assert!(rt; dec.args.as_slice() == [Sort::Bits(8), Sort::Bits(3)].as_slice());
+    assert!(rt; dec.results.as_slice() == [TermId(2)].as_slice());
+    let (name, inv) = spec.goals.get(0).ok_or("there is a goal")?;
+    assert!(rt; name == "inv" && inv.cost == 7);
+    let args = [(Kind::Reg, Sort::Bits(3)), (Kind::Reg, Sort::Bits(8))];
+    assert!(rt; inv.args.as_slice() == args.as_slice());
+    assert!(rt; inv.results.as_slice() == [TermId(4)].as_slice());
     Ok(())
 }

@@ -1,5 +1,6 @@
 -- Which texts have a fault, and that it is one fault.
-use Rattle.std.proofs.Common.{◌≡◌, ℕ, ◌+◌, ◌-◌, ◌<◌, ◌≤◌, ◌⊎◌, true, false, List, [], ◌∷◌, ◌++◌, length, drop, slice_get, Some, refl, sym, ap, subst, ◌∙◌, inl, inr, arith, append_assoc, length-append}
+use Rattle.std.proofs.Common.{◌≡◌, ℕ, ◌+◌, ◌-◌, ◌<◌, ◌≤◌, ◌⊎◌, true, false, List, [], ◌∷◌, ◌++◌, length, drop}
+use Rattle.std.proofs.Common.{slice_get, Some, refl, sym, ap, subst, ◌∙◌, inl, inr, arith, append_assoc, length-append}
 use Rattle.std.specs.Prelude.{IsTrue}
 use Rattle.std.specs.List.{AllByRecursion, list_all}
 use Rattle.std.proofs.lemmas.List.{append-nil, same_from_push}
@@ -11,7 +12,8 @@ use Rattle.sexp_read.specs.declared.fault.SexpFault.TheVariants.{NotText, Unclos
 use Rattle.sexp_read.specs.declared.forest.Item.{Item}
 use Rattle.sexp_read.specs.declared.forest.Forest.{Forest}
 use Rattle.sexp_read.specs.Token.{is_text_byte, Token, Open, Close, Atom, Mode, tokens, tokens_from}
-use Rattle.sexp_read.specs.Tree.{Tree, Word, Branch, Trees, End, Then, tree_tokens, flatten, tree_depth, depth, depth_limit}
+use Rattle.sexp_read.specs.Tree.{Tree, Word, Branch, Trees, End, Then, tree_tokens, flatten, tree_depth, depth}
+use Rattle.sexp_read.specs.Tree.{depth_limit}
 use Rattle.sexp_read.specs.Forest.{IsReading, items_of, places}
 use Rattle.sexp_read.specs.Fault.{open_after, open_lists, HasToken, StandsIn, place_of, IsFault}
 use Rattle.sexp_read.specs.Progress.{IsFaultless}
@@ -31,12 +33,14 @@ in-either {X} (y ∷ xs) ys (z ∷ before) x after e =
       | inr found ↦ inr found
     ]
 
-pub all-in-middle : {X : Type 0} (P : X → Type 0) (before : List X) (x : X) (after : List X) → AllByRecursion P (before ++ x ∷ after) → P x
+pub all-in-middle : {X : Type 0} (P : X → Type 0) (before : List X) (x : X) (after : List X)
+    → AllByRecursion P (before ++ x ∷ after) → P x
 all-in-middle P [] x after all = all.0
 all-in-middle P (y ∷ before) x after all = all-in-middle P before x after all.1
 
 -- the rest of faultless tokens is faultless after what they leave open
-pub faultless-rest : (opened : List ℕ) (before after : List Token) → IsFaultless opened (before ++ after) → IsFaultless (open_after opened before) after
+pub faultless-rest : (opened : List ℕ) (before after : List Token) → IsFaultless opened (before ++ after)
+    → IsFaultless (open_after opened before) after
 faultless-rest opened [] after h = h
 faultless-rest opened (Open place ∷ before) after h = faultless-rest (place ∷ opened) before after h.1
 faultless-rest [] (Close to ∷ before) after h = absurd h
@@ -47,15 +51,18 @@ not-stray : (opened : List ℕ) (to : ℕ) (after : List Token) → IsFaultless 
 not-stray [] to after h e = h
 not-stray (place ∷ opened) to after h e = cc
 
-pub no-stray : (before : List Token) (to : ℕ) (after : List Token) → IsFaultless [] (before ++ Close to ∷ after) → open_lists before ≡ [] → ⊥
+pub no-stray : (before : List Token) (to : ℕ) (after : List Token) → IsFaultless [] (before ++ Close to ∷ after)
+    → open_lists before ≡ [] → ⊥
 no-stray before to after h e = not-stray (open_lists before) to after (faultless-rest [] before (Close to ∷ after) h) e
 
-pub not-deep : (before : List Token) (place : ℕ) (after : List Token) → IsFaultless [] (before ++ Open place ∷ after) → length (open_lists before) < depth_limit
+pub not-deep : (before : List Token) (place : ℕ) (after : List Token) → IsFaultless [] (before ++ Open place ∷ after)
+    → length (open_lists before) < depth_limit
 not-deep before place after h = (faultless-rest [] before (Open place ∷ after) h).0
 
 -- whole trees are faultless exactly where they are not nested too deep
 mutual
-  tree-faultless : (tree : Tree) (opened : List ℕ) (rest : List Token) → length opened + tree_depth tree ≤ depth_limit → IsFaultless opened rest →
+  tree-faultless : (tree : Tree) (opened : List ℕ) (rest : List Token) → length opened + tree_depth tree ≤ depth_limit
+      → IsFaultless opened rest →
       IsFaultless opened (tree_tokens tree ++ rest)
   tree-faultless (Word first word) opened rest le h = h
   tree-faultless (Branch from to members) opened rest le h = (
@@ -64,15 +71,18 @@ mutual
         (trees-faultless members (from ∷ opened) (Close to ∷ rest) (omega arith) h),
   )
 
-  pub trees-faultless : (trees : Trees) (opened : List ℕ) (rest : List Token) → length opened + depth trees ≤ depth_limit → IsFaultless opened rest →
+  pub trees-faultless : (trees : Trees) (opened : List ℕ) (rest : List Token)
+      → length opened + depth trees ≤ depth_limit → IsFaultless opened rest →
       IsFaultless opened (flatten trees ++ rest)
   trees-faultless End opened rest le h = h
   trees-faultless (Then tree trees) opened rest le h =
       subst (IsFaultless opened) (sym (append_assoc (tree_tokens tree) (flatten trees) rest))
-      (tree-faultless tree opened (flatten trees ++ rest) (omega arith) (trees-faultless trees opened rest (omega arith) h))
+      (tree-faultless tree opened (flatten trees ++ rest) (omega arith)
+          (trees-faultless trees opened rest (omega arith) h))
 
 mutual
-  tree-shallow : (tree : Tree) (opened : List ℕ) (rest : List Token) → length opened ≤ depth_limit → IsFaultless opened (tree_tokens tree ++ rest) →
+  tree-shallow : (tree : Tree) (opened : List ℕ) (rest : List Token) → length opened ≤ depth_limit
+      → IsFaultless opened (tree_tokens tree ++ rest) →
       (length opened + tree_depth tree ≤ depth_limit) × IsFaultless opened rest
   tree-shallow (Word first word) opened rest le h = (omega arith, h)
   tree-shallow (Branch from to members) opened rest le h =
@@ -80,11 +90,13 @@ mutual
       (subst (IsFaultless (from ∷ opened)) (append_assoc (flatten members) (Close to ∷ []) rest) h.1) in
       (omega (arith, inner.0), inner.1)
 
-  pub trees-shallow : (trees : Trees) (opened : List ℕ) (rest : List Token) → length opened ≤ depth_limit → IsFaultless opened (flatten trees ++ rest) →
+  pub trees-shallow : (trees : Trees) (opened : List ℕ) (rest : List Token) → length opened ≤ depth_limit
+      → IsFaultless opened (flatten trees ++ rest) →
       (length opened + depth trees ≤ depth_limit) × IsFaultless opened rest
   trees-shallow End opened rest le h = (omega arith, h)
   trees-shallow (Then tree trees) opened rest le h =
-      let first = tree-shallow tree opened (flatten trees ++ rest) le (subst (IsFaultless opened) (append_assoc (tree_tokens tree) (flatten trees) rest) h) in
+      let first = tree-shallow tree opened (flatten trees ++ rest) le
+          (subst (IsFaultless opened) (append_assoc (tree_tokens tree) (flatten trees) rest) h) in
       let others = trees-shallow trees opened rest le first.1 in
       (omega (arith, first.0, others.0), others.1)
 
@@ -114,31 +126,38 @@ mutual
       let here : from ≡ from' = cc in
       let rest : (flatten members ++ Close to ∷ []) ++ xs ≡ (flatten members' ++ Close to' ∷ []) ++ ys = cc in
       let inner = trees-one members members' (Close to ∷ xs) (Close to' ∷ ys) tt tt
-      (sym (append_assoc (flatten members) (Close to ∷ []) xs) ∙ rest ∙ append_assoc (flatten members') (Close to' ∷ []) ys) in
+      (sym (append_assoc (flatten members) (Close to ∷ []) xs) ∙ rest
+          ∙ append_assoc (flatten members') (Close to' ∷ []) ys) in
       let same : members ≡ members' = inner.0 in
       let ends : Close to ∷ xs ≡ Close to' ∷ ys = inner.1 in
       (cc, cc)
 
-  trees-one : (a b : Trees) (xs ys : List Token) → IsEnded xs → IsEnded ys → flatten a ++ xs ≡ flatten b ++ ys → (a ≡ b) × (xs ≡ ys)
+  trees-one : (a b : Trees) (xs ys : List Token) → IsEnded xs → IsEnded ys → flatten a ++ xs ≡ flatten b ++ ys
+      → (a ≡ b) × (xs ≡ ys)
   trees-one End End xs ys p q e = (refl, e)
-  trees-one End (Then tree trees) xs ys p q e = absurd (ended-apart tree (flatten trees ++ ys) xs p (e ∙ append_assoc (tree_tokens tree) (flatten trees) ys))
-  trees-one (Then tree trees) End xs ys p q e = absurd (ended-apart tree (flatten trees ++ xs) ys q (sym e ∙ append_assoc (tree_tokens tree) (flatten trees) xs))
+  trees-one End (Then tree trees) xs ys p q e =
+      absurd (ended-apart tree (flatten trees ++ ys) xs p (e ∙ append_assoc (tree_tokens tree) (flatten trees) ys))
+  trees-one (Then tree trees) End xs ys p q e =
+      absurd (ended-apart tree (flatten trees ++ xs) ys q (sym e ∙ append_assoc (tree_tokens tree) (flatten trees) xs))
   trees-one (Then a as') (Then b bs) xs ys p q e =
-      let first = tree-one a b (flatten as' ++ xs) (flatten bs ++ ys) (sym (append_assoc (tree_tokens a) (flatten as') xs) ∙ e ∙ append_assoc (tree_tokens b) (flatten bs) ys) in
+      let first = tree-one a b (flatten as' ++ xs) (flatten bs ++ ys)
+          (sym (append_assoc (tree_tokens a) (flatten as') xs) ∙ e ∙ append_assoc (tree_tokens b) (flatten bs) ys) in
       let others = trees-one as' bs xs ys p q first.1 in
       let same : a ≡ b = first.0 in
       let rest : as' ≡ bs = others.0 in
       (cc, others.1)
 
 pub trees-unique : (ts : List Token) (a b : Trees) → ts ≡ flatten a → ts ≡ flatten b → a ≡ b
-trees-unique ts a b x y = (trees-one a b [] [] tt tt (append-nil (flatten a) ∙ sym x ∙ y ∙ sym (append-nil (flatten b)))).0
+trees-unique ts a b x y =
+    (trees-one a b [] [] tt tt (append-nil (flatten a) ∙ sym x ∙ y ∙ sym (append-nil (flatten b)))).0
 
 pub reading-unique : (bytes : List ℕ) (a b : Forest) → IsReading bytes a → IsReading bytes b → a ≡ b
 reading-unique bytes a b x y =
     let same : x.0 ≡ y.0 = trees-unique (tokens bytes) x.0 y.0 x.1.spelled y.1.spelled in
     let items : a.items ≡ b.items = x.1.items ∙ ap (items_of 0) same ∙ sym y.1.items in
     let outermost : a.outermost ≡ b.outermost = x.1.outermost ∙ ap (places 0) same ∙ sym y.1.outermost in
-    let changed : a ≡ record a { items = b.items } = ap (λ (is : List Item). record { items = is; outermost = a.outermost }) items in
+    let changed : a ≡ record a { items = b.items } =
+        ap (λ (is : List Item). record { items = is; outermost = a.outermost }) items in
     changed ∙ ap (λ (ns : List ℕ). record { items = b.items; outermost = ns }) outermost
 
 -- a place that comes before another is not after it
@@ -157,12 +176,14 @@ none-earlier bytes ts mode place faultless spelling text (Stray k) h =
       | inl found ↦ absurd (no-stray h.0 (k + 1) found.0 (subst (IsFaultless []) found.1 faultless) h.2)
       | inr found ↦
           let here : place < k + 1 = all-in-middle (IsFrom place) found.0 (Close (k + 1)) h.1.after
-          (subst (AllByRecursion (IsFrom place)) found.1 (tokens_from-from mode place (drop place bytes))) in omega arith
+          (subst (AllByRecursion (IsFrom place)) found.1 (tokens_from-from mode place (drop place bytes))) in
+              omega arith
     ]
 none-earlier bytes ts mode place faultless spelling text (Deep k) h =
     elim (in-either ts _ h.0 (Open k) h.1.after (sym spelling ∙ h.1.spelled)) [
       | inl found ↦
-          let few : length (open_lists h.0) < depth_limit = not-deep h.0 k found.0 (subst (IsFaultless []) found.1 faultless) in absurd (omega (arith, h.2))
+          let few : length (open_lists h.0) < depth_limit =
+              not-deep h.0 k found.0 (subst (IsFaultless []) found.1 faultless) in absurd (omega (arith, h.2))
       | inr found ↦ all-in-middle (IsFrom place) found.0 (Open k) h.1.after
           (subst (AllByRecursion (IsFrom place)) found.1 (tokens_from-from mode place (drop place bytes)))
     ]
@@ -170,24 +191,32 @@ none-earlier bytes ts mode place faultless spelling text (Unclosed k) h = absurd
 none-earlier bytes ts mode place faultless spelling text NoMemory h = absurd h
 
 -- what a forest has no fault of
-text-at : (bytes : List ℕ) (k b : ℕ) → IsTrue (list_all is_text_byte bytes) → slice_get bytes k ≡ Some b → is_text_byte b ≡ true
+text-at : (bytes : List ℕ) (k b : ℕ) → IsTrue (list_all is_text_byte bytes) → slice_get bytes k ≡ Some b
+    → is_text_byte b ≡ true
 text-at bytes k b all e =
     let within : k < length bytes = slice_get_within bytes k b e in
-    ap is_text_byte (sym (get_or_from_slice_get bytes k b b e)) ∙ AllPass-from_list_all is_text_byte bytes all k b within
+    ap is_text_byte (sym (get_or_from_slice_get bytes k b b e))
+        ∙ AllPass-from_list_all is_text_byte bytes all k b within
 
-pub none-stands : (bytes : List ℕ) → IsTrue (list_all is_text_byte bytes) → IsFaultless [] (tokens bytes) → (fault : SexpFault) → StandsIn bytes fault → ⊥
+pub none-stands : (bytes : List ℕ) → IsTrue (list_all is_text_byte bytes) → IsFaultless [] (tokens bytes)
+    → (fault : SexpFault) → StandsIn bytes fault → ⊥
 none-stands bytes text faultless (NotText k) h = false≢true (sym h.2 ∙ text-at bytes k h.0 text h.1)
-none-stands bytes text faultless (Stray k) h = no-stray h.0 (k + 1) h.1.after (subst (IsFaultless []) h.1.spelled faultless) h.2
+none-stands bytes text faultless (Stray k) h =
+    no-stray h.0 (k + 1) h.1.after (subst (IsFaultless []) h.1.spelled faultless) h.2
 none-stands bytes text faultless (Deep k) h =
-    let few : length (open_lists h.0) < depth_limit = not-deep h.0 k h.1.after (subst (IsFaultless []) h.1.spelled faultless) in omega (arith, h.2)
+    let few : length (open_lists h.0) < depth_limit =
+        not-deep h.0 k h.1.after (subst (IsFaultless []) h.1.spelled faultless) in omega (arith, h.2)
 none-stands bytes text faultless (Unclosed k) h = h
 none-stands bytes text faultless NoMemory h = h
 
-reading-tokens : (bytes : List ℕ) (trees : Trees) → tokens bytes ≡ flatten trees → depth trees ≤ depth_limit → IsFaultless [] (tokens bytes)
+reading-tokens : (bytes : List ℕ) (trees : Trees) → tokens bytes ≡ flatten trees → depth trees ≤ depth_limit
+    → IsFaultless [] (tokens bytes)
 reading-tokens bytes trees spelled nested =
-    subst (IsFaultless []) (append-nil (flatten trees) ∙ sym spelled) (trees-faultless trees [] [] (omega (arith, nested)) tt)
+    subst (IsFaultless []) (append-nil (flatten trees) ∙ sym spelled)
+        (trees-faultless trees [] [] (omega (arith, nested)) tt)
 
-pub reading-faultless : (bytes : List ℕ) (forest : Forest) (fault : SexpFault) → IsReading bytes forest → IsFault bytes fault → ⊥
+pub reading-faultless : (bytes : List ℕ) (forest : Forest) (fault : SexpFault) → IsReading bytes forest
+    → IsFault bytes fault → ⊥
 reading-faultless bytes forest fault reading h = faults fault h
   where
     none : (fault : SexpFault) → StandsIn bytes fault → ⊥
@@ -198,7 +227,8 @@ reading-faultless bytes forest fault reading h = faults fault h
     faults (Stray k) h = none (Stray k) h.0
     faults (Deep k) h = none (Deep k) h.0
     faults (Unclosed k) h =
-        let closed : h.1.0 ++ k ∷ [] ≡ [] = sym h.1.1 ∙ ap open_lists reading.1.spelled ∙ open_lists-flatten reading.0 [] in
+        let closed : h.1.0 ++ k ∷ [] ≡ [] = sym h.1.1 ∙ ap open_lists reading.1.spelled
+            ∙ open_lists-flatten reading.0 [] in
         omega (arith, ap length closed, length-append h.1.0 (k ∷ []))
     faults NoMemory h = h
 
@@ -208,16 +238,19 @@ IsSpelled bytes (Open at) = slice_get bytes at ≡ Some 40
 IsSpelled bytes (Close to) = slice_get bytes (to - 1) ≡ Some 41
 IsSpelled bytes (Atom first word) = Unit {0}
 
-parenthesis-at : (bytes : List ℕ) (place : ℕ) (before : List Token) (token : Token) (after : List Token) → Spans bytes place (before ++ token ∷ after) → IsSpelled bytes token
+parenthesis-at : (bytes : List ℕ) (place : ℕ) (before : List Token) (token : Token) (after : List Token)
+    → Spans bytes place (before ++ token ∷ after) → IsSpelled bytes token
 parenthesis-at bytes place [] (Open at) after h = h.1
 parenthesis-at bytes place [] (Close to) after h = h.1
 parenthesis-at bytes place [] (Atom first word) after h = tt
 parenthesis-at bytes place (Open at ∷ before) token after h = parenthesis-at bytes (at + 1) before token after h.2
 parenthesis-at bytes place (Close to ∷ before) token after h = parenthesis-at bytes to before token after h.2
-parenthesis-at bytes place (Atom first word ∷ before) token after h = parenthesis-at bytes (first + length word) before token after h.3
+parenthesis-at bytes place (Atom first word ∷ before) token after h =
+    parenthesis-at bytes (first + length word) before token after h.3
 
 token-at : (bytes : List ℕ) (before : List Token) (token : Token) → HasToken bytes before token → IsSpelled bytes token
-token-at bytes before token h = parenthesis-at bytes 0 before token h.after (subst (Spans bytes 0) h.spelled (tokens-span bytes))
+token-at bytes before token h =
+    parenthesis-at bytes 0 before token h.after (subst (Spans bytes 0) h.spelled (tokens-span bytes))
 
 -- the byte at which a fault stands
 abbrev FaultByte : SexpFault → ℕ → Type 0
@@ -226,7 +259,8 @@ FaultByte (Stray k) b = b ≡ 41
 FaultByte (Deep k) b = b ≡ 40
 FaultByte _ b = ⊥
 
-fault-byte : (bytes : List ℕ) (fault : SexpFault) → StandsIn bytes fault → (b : ℕ) × (slice_get bytes (place_of fault) ≡ Some b) × FaultByte fault b
+fault-byte : (bytes : List ℕ) (fault : SexpFault) → StandsIn bytes fault
+    → (b : ℕ) × (slice_get bytes (place_of fault) ≡ Some b) × FaultByte fault b
 fault-byte bytes (NotText k) h = h
 fault-byte bytes (Stray k) h = (41, ap (slice_get bytes) (omega arith) ∙ token-at bytes h.0 (Close (k + 1)) h.1, refl)
 fault-byte bytes (Deep k) h = (40, token-at bytes h.0 (Open k) h.1, refl)
@@ -259,7 +293,8 @@ some-one e = cc
 abbrev FaultView : List ℕ → SexpFault → Type 0
 FaultView bytes fault =
     (StandsIn bytes fault × ((other : SexpFault) → StandsIn bytes other → place_of fault ≤ place_of other))
-    ⊎ ((k : ℕ) × (fault ≡ Unclosed k) × ((other : SexpFault) → StandsIn bytes other → ⊥) × ((inner : List ℕ) × (open_lists (tokens bytes) ≡ inner ++ k ∷ [])))
+    ⊎ ((k : ℕ) × (fault ≡ Unclosed k) × ((other : SexpFault) → StandsIn bytes other → ⊥)
+        × ((inner : List ℕ) × (open_lists (tokens bytes) ≡ inner ++ k ∷ [])))
 
 fault-view : (bytes : List ℕ) (fault : SexpFault) → IsFault bytes fault → FaultView bytes fault
 fault-view bytes (NotText k) h = inl h

@@ -1,12 +1,14 @@
 -- Where the tokens of a text, and the trees that they spell, stand in its bytes.
-use Rattle.std.proofs.Common.{◌≡◌, ℕ, ◌+◌, ◌-◌, ◌<◌, ◌≤◌, ◌⊎◌, Bool, true, false, cond, List, [], ◌∷◌, ◌++◌, length, take, drop, slice_get, slice_range, Some, refl, sym, ap, subst, ◌∙◌, inl, inr, arith}
+use Rattle.std.proofs.Common.{◌≡◌, ℕ, ◌+◌, ◌-◌, ◌<◌, ◌≤◌, ◌⊎◌, Bool, true, false, cond, List, [], ◌∷◌, ◌++◌, length}
+use Rattle.std.proofs.Common.{take, drop, slice_get, slice_range, Some, refl, sym, ap, subst, ◌∙◌, inl, inr, arith}
 use Rattle.std.specs.List.{AllByRecursion}
 use Rattle.std.proofs.lemmas.Option.{slice_get_within}
 use Rattle.std.proofs.lemmas.Bool.Decides.{nat_tests}
 use Rattle.std.proofs.lemmas.List.{length_push}
 use Rattle.sexp_read.specs.declared.token.Class.{Class}
 use Rattle.sexp_read.specs.declared.token.Class.TheVariants.{Blank, LineFeed, Semicolon, Left, Right, Letter}
-use Rattle.sexp_read.specs.Token.{class_of, Token, Open, Close, Atom, Mode, Between, Comment, Within, mode_after, word_in, tokens_at, tokens_from, tokens}
+use Rattle.sexp_read.specs.Token.{class_of, Token, Open, Close, Atom, Mode, Between, Comment, Within, mode_after}
+use Rattle.sexp_read.specs.Token.{word_in, tokens_at, tokens_from, tokens}
 use Rattle.sexp_read.proofs.ListLemmas.{all-append, all-weaker, drop-head, slice_range-more}
 
 -- a parenthesis from a place on, or any word
@@ -36,14 +38,17 @@ tokens_at-from (Within first word) Left place = (tt, (omega arith, tt))
 tokens_at-from (Within first word) Right place = (tt, (omega arith, tt))
 tokens_at-from (Within first word) _ place = (tt, tt)
 
-pub tokens_from-from : (mode : Mode) (place : ℕ) (bytes : List ℕ) → AllByRecursion (IsFrom place) (tokens_from mode place bytes)
+pub tokens_from-from : (mode : Mode) (place : ℕ) (bytes : List ℕ)
+    → AllByRecursion (IsFrom place) (tokens_from mode place bytes)
 tokens_from-from mode place [] = words-from mode place
 tokens_from-from mode place (b ∷ bytes) =
     all-append (IsFrom place) (tokens_at mode (class_of b) place) _ (tokens_at-from mode (class_of b) place)
-    (all-weaker (IsFrom (place + 1)) (IsFrom place) (is-from-earlier place) _ (tokens_from-from (mode_after mode (class_of b) place b) (place + 1) bytes))
+    (all-weaker (IsFrom (place + 1)) (IsFrom place) (is-from-earlier place) _
+        (tokens_from-from (mode_after mode (class_of b) place b) (place + 1) bytes))
 
 -- which bytes are parentheses
-chosen : {X : Type 0} (test : Bool) (x y z : X) → cond test x y ≡ z → ((test ≡ true) × (x ≡ z)) ⊎ ((test ≡ false) × (y ≡ z))
+chosen : {X : Type 0} (test : Bool) (x y z : X) → cond test x y ≡ z
+    → ((test ≡ true) × (x ≡ z)) ⊎ ((test ≡ false) × (y ≡ z))
 chosen true x y z e = inl (refl, e)
 chosen false x y z e = inr (refl, e)
 
@@ -59,7 +64,8 @@ Spans bytes place [] = Unit {0}
 Spans bytes place (Open at ∷ ts) = (place ≤ at) × (slice_get bytes at ≡ Some 40) × Spans bytes (at + 1) ts
 Spans bytes place (Close to ∷ ts) = (place < to) × (slice_get bytes (to - 1) ≡ Some 41) × Spans bytes to ts
 Spans bytes place (Atom first word ∷ ts) =
-    (place ≤ first) × (first + length word ≤ length bytes) × (slice_range bytes first (first + length word) ≡ word) × Spans bytes (first + length word) ts
+    (place ≤ first) × (first + length word ≤ length bytes) × (slice_range bytes first (first + length word) ≡ word)
+        × Spans bytes (first + length word) ts
 
 spans-earlier : (bytes : List ℕ) (place : ℕ) (ts : List Token) → Spans bytes (place + 1) ts → Spans bytes place ts
 spans-earlier bytes place [] h = tt
@@ -77,7 +83,8 @@ abbrev pub ModeIn : List ℕ → ℕ → Mode → Type 0
 ModeIn bytes place (Within first word) = (first + length word ≡ place) × (slice_range bytes first place ≡ word)
 ModeIn bytes place _ = Unit {0}
 
-mode-in : (bytes : List ℕ) (place b : ℕ) (mode : Mode) (class : Class) → slice_get bytes place ≡ Some b → ModeIn bytes place mode → ModeIn bytes (place + 1) (mode_after mode class place b)
+mode-in : (bytes : List ℕ) (place b : ℕ) (mode : Mode) (class : Class) → slice_get bytes place ≡ Some b
+    → ModeIn bytes place mode → ModeIn bytes (place + 1) (mode_after mode class place b)
 mode-in bytes place b Comment LineFeed here h = tt
 mode-in bytes place b Comment _ here h = tt
 mode-in bytes place b Between Letter here h =
@@ -86,23 +93,27 @@ mode-in bytes place b Between Letter here h =
 mode-in bytes place b Between Semicolon here h = tt
 mode-in bytes place b Between _ here h = tt
 mode-in bytes place b (Within first word) Letter here h =
-    (omega (arith, length_push word b), slice_range-more bytes first place b (omega arith) here ∙ ap (λ ws. ws ++ b ∷ []) h.1)
+    (omega (arith, length_push word b), slice_range-more bytes first place b (omega arith) here
+        ∙ ap (λ ws. ws ++ b ∷ []) h.1)
 mode-in bytes place b (Within first word) Semicolon here h = tt
 mode-in bytes place b (Within first word) _ here h = tt
 
-word-then : (bytes : List ℕ) (place first : ℕ) (word : List ℕ) → place ≤ length bytes → ModeIn bytes place (Within first word) →
+word-then : (bytes : List ℕ) (place first : ℕ) (word : List ℕ) → place ≤ length bytes
+    → ModeIn bytes place (Within first word) →
     (ts : List Token) → Spans bytes place ts → Spans bytes first (Atom first word ∷ ts)
 word-then bytes place first word le h ts later =
     (omega arith, omega arith, ap (slice_range bytes first) h.0 ∙ h.1, subst (λ n. Spans bytes n ts) (sym h.0) later)
 
-word-spans : (bytes : List ℕ) (place : ℕ) (mode : Mode) → place ≤ length bytes → ModeIn bytes place mode → Spans bytes (begin place mode) (word_in mode)
+word-spans : (bytes : List ℕ) (place : ℕ) (mode : Mode) → place ≤ length bytes → ModeIn bytes place mode
+    → Spans bytes (begin place mode) (word_in mode)
 word-spans bytes place Between le h = tt
 word-spans bytes place Comment le h = tt
 word-spans bytes place (Within first word) le h = word-then bytes place first word le h [] tt
 
 step-spans : (bytes : List ℕ) (place b : ℕ) (mode : Mode) (class : Class) → slice_get bytes place ≡ Some b →
     (class ≡ Left → b ≡ 40) → (class ≡ Right → b ≡ 41) → ModeIn bytes place mode →
-    (ts : List Token) → Spans bytes (begin (place + 1) (mode_after mode class place b)) ts → Spans bytes (begin place mode) (tokens_at mode class place ++ ts)
+    (ts : List Token) → Spans bytes (begin (place + 1) (mode_after mode class place b)) ts
+        → Spans bytes (begin place mode) (tokens_at mode class place ++ ts)
 step-spans bytes place b Comment LineFeed here left right h ts later = spans-earlier bytes place ts later
 step-spans bytes place b Comment _ here left right h ts later = spans-earlier bytes place ts later
 step-spans bytes place b Between Letter here left right h ts later = later
@@ -113,23 +124,28 @@ step-spans bytes place b Between Semicolon here left right h ts later = spans-ea
 step-spans bytes place b Between _ here left right h ts later = spans-earlier bytes place ts later
 step-spans bytes place b (Within first word) Letter here left right h ts later = later
 step-spans bytes place b (Within first word) Left here left right h ts later =
-    word-then bytes place first word (omega (arith, slice_get_within bytes place b here)) h (Open place ∷ ts) (omega arith, here ∙ ap Some (left refl), later)
+    word-then bytes place first word (omega (arith, slice_get_within bytes place b here)) h (Open place ∷ ts)
+        (omega arith, here ∙ ap Some (left refl), later)
 step-spans bytes place b (Within first word) Right here left right h ts later =
     word-then bytes place first word (omega (arith, slice_get_within bytes place b here)) h (Close (place + 1) ∷ ts)
     (omega arith, ap (slice_get bytes) (omega arith) ∙ here ∙ ap Some (right refl), later)
 step-spans bytes place b (Within first word) Semicolon here left right h ts later =
-    word-then bytes place first word (omega (arith, slice_get_within bytes place b here)) h ts (spans-earlier bytes place ts later)
+    word-then bytes place first word (omega (arith, slice_get_within bytes place b here)) h ts
+        (spans-earlier bytes place ts later)
 step-spans bytes place b (Within first word) _ here left right h ts later =
-    word-then bytes place first word (omega (arith, slice_get_within bytes place b here)) h ts (spans-earlier bytes place ts later)
+    word-then bytes place first word (omega (arith, slice_get_within bytes place b here)) h ts
+        (spans-earlier bytes place ts later)
 
-pub tokens_from-spans : (bytes : List ℕ) (mode : Mode) (place : ℕ) (rest : List ℕ) → drop place bytes ≡ rest → place ≤ length bytes → ModeIn bytes place mode →
+pub tokens_from-spans : (bytes : List ℕ) (mode : Mode) (place : ℕ) (rest : List ℕ) → drop place bytes ≡ rest
+    → place ≤ length bytes → ModeIn bytes place mode →
     Spans bytes (begin place mode) (tokens_from mode place rest)
 tokens_from-spans bytes mode place [] e le h = word-spans bytes place mode le h
 tokens_from-spans bytes mode place (b ∷ rest) e le h =
     let here = drop-head bytes place b rest e in
     let within : place < length bytes = slice_get_within bytes place b here.0 in
     step-spans bytes place b mode (class_of b) here.0 (left-byte b) (right-byte b) h _
-    (tokens_from-spans bytes (mode_after mode (class_of b) place b) (place + 1) rest here.1 (omega arith) (mode-in bytes place b mode (class_of b) here.0 h))
+    (tokens_from-spans bytes (mode_after mode (class_of b) place b) (place + 1) rest here.1 (omega arith)
+        (mode-in bytes place b mode (class_of b) here.0 h))
 
 pub tokens-span : (bytes : List ℕ) → Spans bytes 0 (tokens bytes)
 tokens-span bytes = tokens_from-spans bytes Between 0 bytes refl (omega arith) tt

@@ -25,8 +25,10 @@ pub record HasToken (bytes : List ℕ) (before : List Token) (token : Token) : T
 -- many open as there may be.
 abbrev pub StandsIn : List ℕ → SexpFault → Type 0
 StandsIn bytes (NotText place) = (b : ℕ) × (slice_get bytes place ≡ Some b) × (is_text_byte b ≡ false)
-StandsIn bytes (Stray place) = (before : List Token) × HasToken bytes before (Close (place + 1)) × (open_lists before ≡ [])
-StandsIn bytes (Deep place) = (before : List Token) × HasToken bytes before (Open place) × (depth_limit ≤ length (open_lists before))
+StandsIn bytes (Stray place) =
+    (before : List Token) × HasToken bytes before (Close (place + 1)) × (open_lists before ≡ [])
+StandsIn bytes (Deep place) =
+    (before : List Token) × HasToken bytes before (Open place) × (depth_limit ≤ length (open_lists before))
 StandsIn bytes _ = ⊥
 
 abbrev pub place_of : SexpFault → ℕ
@@ -41,8 +43,10 @@ place_of NoMemory = 0
 abbrev pub IsFault : List ℕ → SexpFault → Type 0
 IsFault bytes NoMemory = ⊥
 IsFault bytes (Unclosed place) =
-    ((fault : SexpFault) → StandsIn bytes fault → ⊥) × ((inner : List ℕ) × (open_lists (tokens bytes) ≡ inner ++ place ∷ []))
-IsFault bytes fault = StandsIn bytes fault × ((other : SexpFault) → StandsIn bytes other → place_of fault ≤ place_of other)
+    ((fault : SexpFault) → StandsIn bytes fault → ⊥)
+        × ((inner : List ℕ) × (open_lists (tokens bytes) ≡ inner ++ place ∷ []))
+IsFault bytes fault =
+    StandsIn bytes fault × ((other : SexpFault) → StandsIn bytes other → place_of fault ≤ place_of other)
 
 -- what a call returned, unless memory ran out
 abbrev pub IsButForMemory : {A : Type 0} → Result A SexpFault → Result A SexpFault → Type 0

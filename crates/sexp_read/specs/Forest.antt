@@ -1,5 +1,6 @@
 -- Which forest a text is, and what an item of it stands for.
-use Rattle.std.specs.Prelude.{◌≡◌, ℕ, ◌+◌, ◌≤◌, List, [], ◌∷◌, ◌++◌, length, Option, Some, None, slice_get, slice_range, option_map, option_and_then, IsTrue}
+use Rattle.std.specs.Prelude.{◌≡◌, ℕ, ◌+◌, ◌≤◌, List, [], ◌∷◌, ◌++◌, length, Option, Some, None, slice_get, slice_range}
+use Rattle.std.specs.Prelude.{option_map, option_and_then, IsTrue}
 use Rattle.std.specs.List.{list_all}
 use Rattle.sexp_read.specs.declared.forest.Forest.{Forest}
 use Rattle.sexp_read.specs.declared.forest.Item.{Item}
@@ -23,7 +24,8 @@ places number (Then tree trees) = number ∷ places (number + tree_size tree) tr
 abbrev mutual
   pub tree_items : ℕ → Tree → List Item
   tree_items number (Word first bytes) = atom first (first + length bytes) ∷ []
-  tree_items number (Branch from to members) = list from to (places (number + 1) members) ∷ items_of (number + 1) members
+  tree_items number (Branch from to members) =
+      list from to (places (number + 1) members) ∷ items_of (number + 1) members
 
   pub items_of : ℕ → Trees → List Item
   items_of number End = []
@@ -45,13 +47,16 @@ IsReading bytes forest = (trees : Trees) × IsForest bytes trees forest
 abbrev mutual
   pub Denotes : List ℕ → List Item → ℕ → Tree → Type 0
   Denotes bytes items number (Word first word) =
-      (slice_get items number ≡ Some (atom first (first + length word))) × (slice_range bytes first (first + length word) ≡ word)
+      (slice_get items number ≡ Some (atom first (first + length word)))
+          × (slice_range bytes first (first + length word) ≡ word)
   Denotes bytes items number (Branch from to members) =
-      (children : List ℕ) × (slice_get items number ≡ Some (list from to children)) × DenoteAll bytes items children members
+      (children : List ℕ) × (slice_get items number ≡ Some (list from to children))
+          × DenoteAll bytes items children members
 
   pub DenoteAll : List ℕ → List Item → List ℕ → Trees → Type 0
   DenoteAll bytes items [] End = Unit {0}
-  DenoteAll bytes items (number ∷ numbers) (Then tree trees) = Denotes bytes items number tree × DenoteAll bytes items numbers trees
+  DenoteAll bytes items (number ∷ numbers) (Then tree trees) =
+      Denotes bytes items number tree × DenoteAll bytes items numbers trees
   DenoteAll bytes items _ _ = ⊥
 
 -- the bytes of an item's span, those of an atom alone, and the children of a list
@@ -66,7 +71,8 @@ atom_in body.Atom text = Some text
 atom_in (body.List children) text = None
 
 abbrev pub atom_at : List ℕ → List Item → ℕ → Option (List ℕ)
-atom_at bytes items number = option_and_then (λ (item : Item). atom_in item.body (text_of bytes item)) (slice_get items number)
+atom_at bytes items number =
+    option_and_then (λ (item : Item). atom_in item.body (text_of bytes item)) (slice_get items number)
 
 abbrev pub children_in : Body → Option (List ℕ)
 children_in body.Atom = None
@@ -78,4 +84,5 @@ children_at items number = option_and_then (λ (item : Item). children_in item.b
 -- the bytes of a list's first member, where it is an atom
 abbrev pub head_at : List ℕ → List Item → ℕ → Option (List ℕ)
 head_at bytes items number =
-    option_and_then (λ (children : List ℕ). option_and_then (atom_at bytes items) (slice_get children 0)) (children_at items number)
+    option_and_then (λ (children : List ℕ). option_and_then (atom_at bytes items) (slice_get children 0))
+        (children_at items number)

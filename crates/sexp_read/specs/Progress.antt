@@ -1,5 +1,6 @@
 -- How far a reader has come, for its own functions: the tokens so far as trees that grow.
-use Rattle.std.specs.Prelude.{◌≡◌, ℕ, ◌+◌, ◌<◌, true, List, [], ◌∷◌, ◌++◌, length, drop, slice_get, slice_range, Some, ◌⊎◌}
+use Rattle.std.specs.Prelude.{◌≡◌, ℕ, ◌+◌, ◌<◌, true, List, [], ◌∷◌, ◌++◌, length, drop, slice_get, slice_range, Some}
+use Rattle.std.specs.Prelude.{◌⊎◌}
 use Rattle.sexp_read.specs.declared.forest.Item.{Item}
 use Rattle.sexp_read.specs.declared.forest.Forest.{Forest}
 use Rattle.sexp_read.specs.declared.fault.SexpFault.{SexpFault}
@@ -10,7 +11,8 @@ use Rattle.sexp_read.specs.declared.builder.OpenList.{OpenList}
 use Rattle.sexp_read.specs.declared.reader.Reader.{Reader}
 use Rattle.sexp_read.specs.declared.reader.Pending.{Pending}
 use Rattle.sexp_read.specs.declared.reader.Pending.TheVariants as pending
-use Rattle.sexp_read.specs.Token.{is_text_byte, class_of, Token, Open, Close, Atom, Mode, Between, Comment, Within, tokens, tokens_from}
+use Rattle.sexp_read.specs.Token.{is_text_byte, class_of, Token, Open, Close, Atom, Mode, Between, Comment, Within}
+use Rattle.sexp_read.specs.Token.{tokens, tokens_from}
 use Rattle.sexp_read.specs.Tree.{Trees, flatten, size, depth_limit}
 use Rattle.sexp_read.specs.Forest.{atom, places, items_of}
 use Rattle.sexp_read.specs.Fault.{open_lists, IsFault}
@@ -100,7 +102,8 @@ pub record HasClass (bytes : List ℕ) (place : ℕ) (class : Class) : Type 0 wh
 
 -- a reader goes on over a byte of a class at a place, or refuses it
 abbrev pub ReadsOn : Reader → Class → ℕ → Reader → Type 0
-ReadsOn old class place new = (bytes : List ℕ) → HasRead bytes place old → HasClass bytes place class → HasRead bytes (place + 1) new
+ReadsOn old class place new = (bytes : List ℕ) → HasRead bytes place old → HasClass bytes place class
+    → HasRead bytes (place + 1) new
 
 abbrev pub Refuses : Reader → Class → ℕ → SexpFault → Type 0
 Refuses old class place fault =

@@ -6,7 +6,11 @@ use std::test::*;
 #[test]
 fn faults(rt: HostRuntime) {
     let table: [(&str, &[u8], SexpFault); 12] = [
-        ("256 deep, never closed", &[b'('; 256], SexpFault::Unclosed(0)),
+        (
+            "256 deep, never closed",
+            &[b'('; 256],
+            SexpFault::Unclosed(0),
+        ),
         ("257 deep", &[b'('; 257], SexpFault::Deep(256)),
         ("stray", b"a)", SexpFault::Stray(1)),
         ("no text before a stray", b"\0)", SexpFault::NotText(0)),
@@ -15,7 +19,11 @@ fn faults(rt: HostRuntime) {
         ("no text in a word", b"a\0b", SexpFault::NotText(1)),
         ("no text in a comment", b"; \x80\n", SexpFault::NotText(2)),
         ("closed in a comment", b"(; )\n", SexpFault::Unclosed(0)),
-        ("a return ends no comment", b"(; x\r)", SexpFault::Unclosed(0)),
+        (
+            "a return ends no comment",
+            b"(; x\r)",
+            SexpFault::Unclosed(0),
+        ),
         ("the outermost of two", b" ((a)", SexpFault::Unclosed(1)),
         ("after a whole list", b"() (()\n(", SexpFault::Unclosed(3)),
     ];
@@ -30,11 +38,41 @@ fn forests(rt: HostRuntime) -> Result<(), Fail> {
     let table: [(&str, &[u8], &[(usize, usize)], &[usize], &[usize]); 8] = [
         ("no byte", b"", &[], &[], &[]),
         ("a comment to the end", b"; no line end (", &[], &[], &[]),
-        ("a word and a list", b"a(b)", &[(0, 1), (1, 4), (2, 3)], &[2], &[0, 1]),
-        ("nested", b"((()))", &[(0, 6), (1, 5), (2, 4)], &[1, 2], &[0]),
-        ("all blanks", b"a b\r\n\tc", &[(0, 1), (2, 3), (6, 7)], &[], &[0, 1, 2]),
-        ("no quotes", b"|a b| \"c", &[(0, 2), (3, 5), (6, 8)], &[], &[0, 1, 2]),
-        ("a comment ends a word", b"x;(;)\ny", &[(0, 1), (6, 7)], &[], &[0, 1]),
+        (
+            "a word and a list",
+            b"a(b)",
+            &[(0, 1), (1, 4), (2, 3)],
+            &[2],
+            &[0, 1],
+        ),
+        (
+            "nested",
+            b"((()))",
+            &[(0, 6), (1, 5), (2, 4)],
+            &[1, 2],
+            &[0],
+        ),
+        (
+            "all blanks",
+            b"a b\r\n\tc",
+            &[(0, 1), (2, 3), (6, 7)],
+            &[],
+            &[0, 1, 2],
+        ),
+        (
+            "no quotes",
+            b"|a b| \"c",
+            &[(0, 2), (3, 5), (6, 8)],
+            &[],
+            &[0, 1, 2],
+        ),
+        (
+            "a comment ends a word",
+            b"x;(;)\ny",
+            &[(0, 1), (6, 7)],
+            &[],
+            &[0, 1],
+        ),
         (
             "members in order",
             b"(a (b) c)()",

@@ -2,7 +2,9 @@ use Rattle.sexp_read.proofs.ReaderLemmas.{every-reading, every-fault}
 use Rattle.sexp_read.proofs.reader.read.Goals as goal
 
 pub returns-clause-every_reading : goal.returns-clause-every_reading
-returns-clause-every_reading c = every-reading c.args.bytes.now c.read_all.result c.read_all.ensures.ok c.read_all.ensures.err
+returns-clause-every_reading c =
+    every-reading c.args.bytes.now c.read_all.result c.read_all.ensures.ok c.read_all.ensures.err
 
 pub returns-clause-every_fault : goal.returns-clause-every_fault
-returns-clause-every_fault c = every-fault c.args.bytes.now c.read_all.result c.read_all.ensures.ok c.read_all.ensures.err
+returns-clause-every_fault c =
+    every-fault c.args.bytes.now c.read_all.result c.read_all.ensures.ok c.read_all.ensures.err

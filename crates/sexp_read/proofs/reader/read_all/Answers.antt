@@ -12,7 +12,9 @@ returns-clause-ok c =
     let end : c.loop-place.place ≡ length bytes = omega arith in
     let read = subst (λ n. HasRead bytes n reader) end c.loop-place.invariant in
     let built = c.in_ok-into_builder.ensures.ok bytes refl read in
-    IfOk-weaker c.finish.result _ _ (λ forest holds. reading-at-end bytes (length bytes) reader c.in_ok-into_builder.field-0 forest refl read built (holds (tokens bytes) built)) c.finish.ensures.ok
+    IfOk-weaker c.finish.result _ _
+        (λ forest holds. reading-at-end bytes (length bytes) reader c.in_ok-into_builder.field-0 forest refl read built
+        (holds (tokens bytes) built)) c.finish.ensures.ok
 
 pub returns-clause-err : goal.returns-clause-err
 returns-clause-err c =
@@ -21,4 +23,7 @@ returns-clause-err c =
     let end : c.loop-place.place ≡ length bytes = omega arith in
     let read = subst (λ n. HasRead bytes n reader) end c.loop-place.invariant in
     let built = c.in_ok-into_builder.ensures.ok bytes refl read in
-    IfErr-weaker c.finish.result _ _ (λ fault leaves. inr (fault-at-end bytes (length bytes) reader c.in_ok-into_builder.field-0 fault refl read built (leaves (tokens bytes) built))) c.finish.ensures.err
+    IfErr-weaker c.finish.result _ _
+        (λ fault leaves. inr (fault-at-end bytes
+        (length bytes) reader c.in_ok-into_builder.field-0 fault refl read built (leaves (tokens bytes) built)))
+        c.finish.ensures.err

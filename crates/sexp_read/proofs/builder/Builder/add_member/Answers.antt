@@ -8,5 +8,8 @@ returns-in_ok-push-in_default-clause-ok c =
     record {
       items = refl;
       outer = λ e. absurd (omega (arith, c.len.ensures, unclosed.ok.0, ap length e));
-      inner = λ front last e. (add-inner unclosed.items c.len.result c.index_mut.result.now _ c.args.number (c.len.ensures ∙ unclosed.ok.0) c.index_mut.ensures.value c.in_ok-push-in_default.ensures.ok front last e, refl);
+      inner = λ front last e.
+          (add-inner unclosed.items c.len.result c.index_mut.result.now _ c.args.number
+          (c.len.ensures ∙ unclosed.ok.0) c.index_mut.ensures.value c.in_ok-push-in_default.ensures.ok front last e,
+          refl);
     }

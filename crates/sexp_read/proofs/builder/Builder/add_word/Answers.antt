@@ -7,5 +7,6 @@ pub returns-clause-ok : goal.returns-clause-ok
 returns-clause-ok c =
     let old = c.args.self.now in
     on_ok_weaker c.add_member.result
-    (λ adds. has-word old _ c.add_member.new.self _ c.args.from c.args.to c.in_ok-push.ensures.items refl refl (c.len-number.ensures ∙ old.items.ok.0) adds)
+    (λ adds. has-word old _ c.add_member.new.self _ c.args.from c.args.to c.in_ok-push.ensures.items refl refl
+        (c.len-number.ensures ∙ old.items.ok.0) adds)
     c.add_member.ensures.ok

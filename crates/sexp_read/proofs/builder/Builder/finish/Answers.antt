@@ -4,8 +4,11 @@ use Rattle.sexp_read.proofs.builder.Builder.finish.Goals as goal
 
 pub returns-in-Some-clause-err : goal.returns-in-Some-clause-err
 returns-in-Some-clause-err c =
-    leaves-open c.args.self c.in-Some.list.now (ap (λ ls. slice_get ls 0) (sym c.deref.ensures.value) ∙ sym c.in-Some.ensures.value)
+    leaves-open c.args.self c.in-Some.list.now (ap (λ ls. slice_get ls 0) (sym c.deref.ensures.value)
+        ∙ sym c.in-Some.ensures.value)
 
 pub returns-in-None-clause-ok : goal.returns-in-None-clause-ok
 returns-in-None-clause-ok c =
-    holds-all c.args.self _ (none-first c.args.self.unclosed.items (ap (λ ls. slice_get ls 0) (sym c.deref.ensures.value) ∙ sym c.in-None.ensures.value)) c.from_vec.ensures refl
+    holds-all c.args.self _
+        (none-first c.args.self.unclosed.items (ap (λ ls. slice_get ls 0) (sym c.deref.ensures.value)
+        ∙ sym c.in-None.ensures.value)) c.from_vec.ensures refl

@@ -11,7 +11,8 @@ pub returns-in-Left-clause-ok : goal.returns-in-Left-clause-ok
 returns-in-Left-clause-ok c =
     let place = c.args.place in
     on_ok_weaker c.open_list.result
-    (λ builds bytes read here. read-more bytes place c.args.self.now _ pending.Nothing class.Left (Open place ∷ []) read (subst (HasClass bytes place) c.in-Left.is here)
+    (λ builds bytes read here. read-more bytes place c.args.self.now _ pending.Nothing class.Left (Open place ∷ []) read
+        (subst (HasClass bytes place) c.in-Left.is here)
     c.requires.nothing refl builds pending.Nothing c.requires.nothing refl tt)
     c.open_list.ensures.ok
 
@@ -19,28 +20,36 @@ pub returns-in-Right-clause-ok : goal.returns-in-Right-clause-ok
 returns-in-Right-clause-ok c =
     let place = c.args.place in
     on_ok_weaker c.close_list.result
-    (λ builds bytes read here. read-more bytes place c.args.self.now _ pending.Nothing class.Right (Close (place + 1) ∷ []) read (subst (HasClass bytes place) c.in-Right.is here)
+    (λ builds bytes read here. read-more bytes place c.args.self.now _ pending.Nothing class.Right
+        (Close (place + 1) ∷ []) read (subst (HasClass bytes place) c.in-Right.is here)
     c.requires.nothing refl builds pending.Nothing c.requires.nothing refl tt)
     c.close_list.ensures.ok
 
 pub returns-in-Left-clause-err : goal.returns-in-Left-clause-err
 returns-in-Left-clause-err c =
-    IfErr-weaker c.open_list.result _ _ (λ fault why. refuses-deep c.args.self.now c.args.class c.args.place fault c.in-Left.is c.requires.nothing why) c.open_list.ensures.err
+    IfErr-weaker c.open_list.result _ _
+        (λ fault why. refuses-deep c.args.self.now c.args.class c.args.place fault c.in-Left.is c.requires.nothing why)
+        c.open_list.ensures.err
 
 pub returns-in-Right-clause-err : goal.returns-in-Right-clause-err
 returns-in-Right-clause-err c =
-    IfErr-weaker c.close_list.result _ _ (λ fault why. refuses-stray c.args.self.now c.args.class c.args.place fault c.in-Right.is c.requires.nothing why) c.close_list.ensures.err
+    IfErr-weaker c.close_list.result _ _
+        (λ fault why. refuses-stray c.args.self.now c.args.class c.args.place fault c.in-Right.is c.requires.nothing
+        why) c.close_list.ensures.err
 
 pub returns-in-Semicolon-clause-ok : goal.returns-in-Semicolon-clause-ok
 returns-in-Semicolon-clause-ok c = λ bytes read here.
-    read-same bytes c.args.place c.args.self.now _ pending.Nothing class.Semicolon read (subst (HasClass bytes c.args.place) c.in-Semicolon.is here)
+    read-same bytes c.args.place c.args.self.now _ pending.Nothing class.Semicolon read
+        (subst (HasClass bytes c.args.place) c.in-Semicolon.is here)
     c.requires.nothing refl refl pending.Comment refl refl tt
 
 pub returns-in-Letter-clause-ok : goal.returns-in-Letter-clause-ok
 returns-in-Letter-clause-ok c = λ bytes read here.
     let place = c.args.place in
-    read-same bytes place c.args.self.now _ pending.Nothing class.Letter read (subst (HasClass bytes place) c.in-Letter.is here)
-    c.requires.nothing refl refl (pending.Word place) refl (ap (Within place) (word-begins bytes place here.byte here.here)) (omega arith)
+    read-same bytes place c.args.self.now _ pending.Nothing class.Letter read
+        (subst (HasClass bytes place) c.in-Letter.is here)
+    c.requires.nothing refl refl (pending.Word place) refl
+        (ap (Within place) (word-begins bytes place here.byte here.here)) (omega arith)
 
 pub returns-in-Blank-clause-ok : goal.returns-in-Blank-clause-ok
 returns-in-Blank-clause-ok c = reads-blank c.args.self.now c.args.class c.args.place c.requires.nothing c.in-Blank.is

@@ -1,8 +1,0 @@
-/// What an item of a file defines.
-#[derive(Clone, Copy, Debug)]
-pub enum Subject {
-    /// An IR operation.
-    Operation,
-    /// A target instruction.
-    Goal,
-}
