@@ -7,7 +7,6 @@ use Rattle.std.specs.Str.{bytes_eq}
 use Rattle.std.proofs.lemmas.Bool.{leb-true, and_parts}
 use Rattle.bv_terms.specs.declared.value.Sort.{Sort}
 use Rattle.bv_terms.specs.declared.value.Sort.TheVariants as sort
-use Rattle.bv_terms.specs.Sorts.{width_of}
 use Rattle.sexp_read.specs.Tree.{Tree}
 use Rattle.isel_spec.specs.declared.subject.Subject.{Subject}
 use Rattle.isel_spec.specs.declared.subject.Subject.TheVariants as subject
@@ -120,15 +119,6 @@ plain_operations : (ds : List Definition) → AllByRecursion IsPlain (operations
 plain_operations [] = tt
 plain_operations (d ∷ ds) = plain_operations_more d.subject d ds refl (plain_operations ds)
 
-width_is : (s : Sort) → bits_of s ≡ width_of s
-width_is sort.Bool = refl
-width_is (sort.Bits w) = refl
-width_is sort.Mem = refl
-
-widths_are : (ss : List Sort) → map bits_of ss ≡ map width_of ss
-widths_are [] = refl
-widths_are (s ∷ ss) = λ i. width_is s i ∷ widths_are ss i
-
 only_goal : (os : List Operation) (gs : List Goal) → is_small os gs ≡ true → (g : Goal) × (gs ≡ g ∷ []) × (sum (map bits_of g.args) ≤ 12)
 only_goal os [] h = cc
 only_goal os (g ∷ []) h = (g, refl, leb-true _ _ (and_parts _ _ (and_parts _ _ h).0).1)
@@ -152,7 +142,7 @@ small_file os gs pointer small plain plain_goal =
             let same : Some only.0 ≡ Some g = subst Q only.1 at in
             let e : only.0 ≡ g = cc in
             let R : Goal → Type 0 = λ k. HasFewInputs k in
-            subst R e (record { results = fits.0; plain = no_memory only.0.args fits.1; few = subst (λ ws. sum ws ≤ 12) (widths_are only.0.args) only.2 });
+            subst R e (record { results = fits.0; plain = no_memory only.0.args fits.1; few = only.2 });
       };
     }
 
