@@ -159,7 +159,16 @@ fn add_agreeing(
 {
     for choice in choices {
         let places = choice.as_slice();
-        if does_operation_agree(alloc, terms, evaluator, args, at, &wanted.cases, places, room)? {
+        if does_operation_agree(
+            alloc,
+            terms,
+            evaluator,
+            args,
+            at,
+            &wanted.cases,
+            places,
+            room,
+        )? {
             rules.push(operation_rule(alloc, op, places)?)?;
         }
     }
