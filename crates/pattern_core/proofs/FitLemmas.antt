@@ -1,5 +1,7 @@
 -- Tests of a pattern's parts: lists compared from the front on, and what names a node.
-use Rattle.std.proofs.Common.{◌≡◌, ℕ, zero, suc, ◌+◌, ◌^◌, ◌<◌, ◌≤◌, Bool, true, false, ◌↔◌, inl, inr, List, [], ◌∷◌, length, map, take, get_or, Some, refl, sym, ap, ◌∙◌, subst, arith, slice_get, All, Contains}
+use Rattle.std.proofs.Common.{◌≡◌, ℕ, zero, suc, ◌+◌, ◌^◌, ◌<◌, ◌≤◌, Bool, true, false, ◌↔◌, inl, inr, List, [], ◌∷◌}
+use Rattle.std.proofs.Common.{length, map, take, get_or, Some, refl, sym, ap, ◌∙◌, subst, arith, slice_get, All}
+use Rattle.std.proofs.Common.{Contains}
 use Rattle.std.specs.Prelude.{option_map, option_and_then}
 use Rattle.std.proofs.lemmas.Bool.{false≢true}
 use Rattle.std.proofs.lemmas.List.{take_all}
@@ -19,8 +21,9 @@ use Rattle.pattern_core.specs.declared.pattern.Src.{Src}
 use Rattle.pattern_core.specs.declared.pattern.Src.TheVariants.{Out}
 use Rattle.pattern_core.specs.declared.pattern.Node.{Node}
 use Rattle.pattern_core.specs.declared.pattern.Pattern.{Pattern}
-use Rattle.pattern_core.specs.Pattern.{operation_sort, source_sort, Pairwise, IsFitting, IsOf, IsAmong, IsNamed, IsWellFormed, args_of}
-use Rattle.pattern_core.proofs.SoundLemmas.{operation_is, goal_is}
+use Rattle.pattern_core.specs.Pattern.{operation_sort, source_sort, Pairwise, IsFitting, IsOf, IsAmong, IsUsed}
+use Rattle.pattern_core.specs.Pattern.{IsWellFormed, args_of}
+use Rattle.isel_spec.proofs.SpecLemmas.{operation_is, goal_is}
 
 -- ---- a test's answer
 
@@ -35,7 +38,8 @@ yes_answer p = (λ t. p, λ q. refl)
 
 -- ---- two lists with one image
 
-same-suc : {A B C : Type 0} (F : A → C) (G : B → C) (xs : List A) (ys : List B) (i : ℕ) (d : A) (e : B) → i < length xs → i < length ys → F (get_or xs i d) ≡ G (get_or ys i e)
+same-suc : {A B C : Type 0} (F : A → C) (G : B → C) (xs : List A) (ys : List B) (i : ℕ) (d : A) (e : B) → i < length xs
+    → i < length ys → F (get_or xs i d) ≡ G (get_or ys i e)
     → map F (take i xs) ≡ map G (take i ys) → map F (take (suc i) xs) ≡ map G (take (suc i) ys)
 same-suc F G [] ys i d e l k s h = absurd (omega (arith, l))
 same-suc F G (x ∷ xs) [] i d e l k s h = absurd (omega (arith, k))
@@ -46,98 +50,130 @@ same-suc F G (x ∷ xs) (y ∷ ys) (suc i) d e l k s h =
     let more = same-suc F G xs ys i d e (omega (arith, l)) (omega (arith, k)) s rest in
     λ j. first j ∷ more j
 
-pub same-more : {A B C : Type 0} (F : A → C) (G : B → C) (xs : List A) (ys : List B) (i : ℕ) (d : A) (e : B) → i < length xs → i < length ys → F (get_or xs i d) ≡ G (get_or ys i e)
+pub same-more : {A B C : Type 0} (F : A → C) (G : B → C) (xs : List A) (ys : List B) (i : ℕ) (d : A) (e : B)
+    → i < length xs → i < length ys → F (get_or xs i d) ≡ G (get_or ys i e)
     → map F (take i xs) ≡ map G (take i ys) → map F (take (i + 1) xs) ≡ map G (take (i + 1) ys)
-same-more F G xs ys i d e l k s h = let n : suc i ≡ i + 1 = omega arith in subst (λ m. map F (take m xs) ≡ map G (take m ys)) n (same-suc F G xs ys i d e l k s h)
+same-more F G xs ys i d e l k s h = let n : suc i ≡ i + 1 =
+    omega arith in subst (λ m. map F (take m xs) ≡ map G (take m ys)) n (same-suc F G xs ys i d e l k s h)
 
-pub same-at : {A B C : Type 0} (F : A → C) (G : B → C) (xs : List A) (ys : List B) (i : ℕ) (d : A) (e : B) → i < length xs → i < length ys → map F xs ≡ map G ys → F (get_or xs i d) ≡ G (get_or ys i e)
+pub same-at : {A B C : Type 0} (F : A → C) (G : B → C) (xs : List A) (ys : List B) (i : ℕ) (d : A) (e : B)
+    → i < length xs → i < length ys → map F xs ≡ map G ys → F (get_or xs i d) ≡ G (get_or ys i e)
 same-at F G [] ys i d e l k h = absurd (omega (arith, l))
 same-at F G (x ∷ xs) [] i d e l k h = absurd (omega (arith, k))
 same-at F G (x ∷ xs) (y ∷ ys) zero d e l k h = cc
-same-at F G (x ∷ xs) (y ∷ ys) (suc i) d e l k h = let rest : map F xs ≡ map G ys = cc in same-at F G xs ys i d e (omega (arith, l)) (omega (arith, k)) rest
+same-at F G (x ∷ xs) (y ∷ ys) (suc i) d e l k h = let rest : map F xs ≡ map G ys =
+    cc in same-at F G xs ys i d e (omega (arith, l)) (omega (arith, k)) rest
 
-pub same-all : {A B C : Type 0} (F : A → C) (G : B → C) (xs : List A) (ys : List B) (i : ℕ) → length xs ≤ i → length ys ≤ i → map F (take i xs) ≡ map G (take i ys) → map F xs ≡ map G ys
+pub same-all : {A B C : Type 0} (F : A → C) (G : B → C) (xs : List A) (ys : List B) (i : ℕ) → length xs ≤ i
+    → length ys ≤ i → map F (take i xs) ≡ map G (take i ys) → map F xs ≡ map G ys
 same-all F G xs ys i l k h = ap (map F) (sym (take_all i xs l)) ∙ h ∙ ap (map G) (take_all i ys k)
 
 -- ---- numbers for widths
 
-pub Pairwise-length : {A B : Type 0} (R : A → B → Type 0) (xs : List A) (ys : List B) → Pairwise R xs ys → length xs ≡ length ys
+pub Pairwise-length : {A B : Type 0} (R : A → B → Type 0) (xs : List A) (ys : List B) → Pairwise R xs ys
+    → length xs ≡ length ys
 Pairwise-length R [] [] h = refl
 Pairwise-length R (x ∷ xs) (y ∷ ys) h = ap suc (Pairwise-length R xs ys h.1)
 Pairwise-length R [] (y ∷ ys) h = absurd h
 Pairwise-length R (x ∷ xs) [] h = absurd h
 
-pub Pairwise-at : {A B : Type 0} (R : A → B → Type 0) (xs : List A) (ys : List B) (i : ℕ) (d : A) (e : B) → i < length xs → Pairwise R xs ys → R (get_or xs i d) (get_or ys i e)
+pub Pairwise-at : {A B : Type 0} (R : A → B → Type 0) (xs : List A) (ys : List B) (i : ℕ) (d : A) (e : B)
+    → i < length xs → Pairwise R xs ys → R (get_or xs i d) (get_or ys i e)
 Pairwise-at R [] ys i d e l h = absurd (omega (arith, l))
 Pairwise-at R (x ∷ xs) [] i d e l h = absurd h
 Pairwise-at R (x ∷ xs) (y ∷ ys) zero d e l h = h.0
 Pairwise-at R (x ∷ xs) (y ∷ ys) (suc i) d e l h = Pairwise-at R xs ys i d e (omega (arith, l)) h.1
 
-Pairwise-suc : {A B : Type 0} (R : A → B → Type 0) (xs : List A) (ys : List B) (i : ℕ) (d : A) (e : B) → i < length xs → i < length ys → R (get_or xs i d) (get_or ys i e) → Pairwise R (take i xs) (take i ys)
+Pairwise-suc : {A B : Type 0} (R : A → B → Type 0) (xs : List A) (ys : List B) (i : ℕ) (d : A) (e : B) → i < length xs
+    → i < length ys → R (get_or xs i d) (get_or ys i e) → Pairwise R (take i xs) (take i ys)
     → Pairwise R (take (suc i) xs) (take (suc i) ys)
 Pairwise-suc R [] ys i d e l k r h = absurd (omega (arith, l))
 Pairwise-suc R (x ∷ xs) [] i d e l k r h = absurd (omega (arith, k))
 Pairwise-suc R (x ∷ xs) (y ∷ ys) zero d e l k r h = (r, tt)
-Pairwise-suc R (x ∷ xs) (y ∷ ys) (suc i) d e l k r h = (h.0, Pairwise-suc R xs ys i d e (omega (arith, l)) (omega (arith, k)) r h.1)
+Pairwise-suc R (x ∷ xs) (y ∷ ys) (suc i) d e l k r h =
+    (h.0, Pairwise-suc R xs ys i d e (omega (arith, l)) (omega (arith, k)) r h.1)
 
-pub Pairwise-more : {A B : Type 0} (R : A → B → Type 0) (xs : List A) (ys : List B) (i : ℕ) (d : A) (e : B) → i < length xs → i < length ys → R (get_or xs i d) (get_or ys i e) → Pairwise R (take i xs) (take i ys)
+pub Pairwise-more : {A B : Type 0} (R : A → B → Type 0) (xs : List A) (ys : List B) (i : ℕ) (d : A) (e : B)
+    → i < length xs → i < length ys → R (get_or xs i d) (get_or ys i e) → Pairwise R (take i xs) (take i ys)
     → Pairwise R (take (i + 1) xs) (take (i + 1) ys)
-Pairwise-more R xs ys i d e l k r h = let n : suc i ≡ i + 1 = omega arith in subst (λ m. Pairwise R (take m xs) (take m ys)) n (Pairwise-suc R xs ys i d e l k r h)
+Pairwise-more R xs ys i d e l k r h = let n : suc i ≡ i + 1 =
+    omega arith in subst (λ m. Pairwise R (take m xs) (take m ys)) n (Pairwise-suc R xs ys i d e l k r h)
 
 -- ---- sorts
 
-pub operation_sort-is : (s : Spec) (op place k j : ℕ) (name : List ℕ) (d : OpDef) (results : List TermId) (r : TermId) (x : Sort) → k ≡ op → j ≡ place → slice_get s.ops k ≡ Some (name, d) → results ≡ d.results → j < length results
-    → sort_of (term_at s.terms (get_or results j r)) ≡ Some x → Some x ≡ operation_sort (slice_get (file s).ops op) place
+pub operation_sort-is : (s : Spec) (op place k j : ℕ) (name : List ℕ) (d : OpDef) (results : List TermId) (r : TermId)
+    (x : Sort) → k ≡ op → j ≡ place → slice_get s.ops k ≡ Some (name, d) → results ≡ d.results → j < length results
+    → sort_of (term_at s.terms (get_or results j r)) ≡ Some x
+    → Some x ≡ operation_sort (slice_get (file s).ops op) place
 operation_sort-is s op place k j name d results r x p q e as' l sorted =
     let term : TermId → Term = λ at. term_in (terms_of s.terms) at.0 in
-    let there : slice_get d.results place ≡ Some (get_or results j r) = (λ i. slice_get (sym as' i) (sym q i)) ∙ slice_get-get_or results j r l in
-    let found : slice_get (map term d.results) place ≡ Some (term_at s.terms (get_or results j r)) = slice_get-map term d.results place ∙ ap (option_map term) there in
-    let whole : slice_get (file s).ops op ≡ Some (operation s.terms (name, d)) = ap (slice_get (file s).ops) (sym p) ∙ operation_is s k name d e in
+    let there : slice_get d.results place ≡ Some (get_or results j r) =
+    (λ i. slice_get (sym as' i) (sym q i)) ∙ slice_get-get_or results j r l in
+    let found : slice_get (map term d.results) place ≡ Some (term_at s.terms (get_or results j r)) =
+    slice_get-map term d.results place ∙ ap (option_map term) there in
+    let whole : slice_get (file s).ops op ≡ Some (operation s.terms (name, d)) =
+    ap (slice_get (file s).ops) (sym p) ∙ operation_is s k name d e in
     sym (ap (λ o. operation_sort o place) whole ∙ ap (option_and_then sort_of) found ∙ sorted)
 
-sorts-map : (ts : List Term) (ats : List TermId) → map sort_of (map (λ (at : TermId). term_in ts at.0) ats) ≡ map (λ (at : TermId). sort_of (term_in ts at.0)) ats
+sorts-map : (ts : List Term) (ats : List TermId)
+    → map sort_of (map (λ (at : TermId). term_in ts at.0) ats) ≡ map (λ (at : TermId). sort_of (term_in ts at.0)) ats
 sorts-map ts [] = refl
 sorts-map ts (at ∷ ats) = ap (λ xs. sort_of (term_in ts at.0) ∷ xs) (sorts-map ts ats)
 
-pub goal_sorts : (s : Spec) (k : ℕ) (name : List ℕ) (d : GoalDef) (g : Goal) (results : List TermId) → slice_get s.goals k ≡ Some (name, d) → slice_get (file s).goals k ≡ Some g → results ≡ d.results
+pub goal_sorts : (s : Spec) (k : ℕ) (name : List ℕ) (d : GoalDef) (g : Goal) (results : List TermId)
+    → slice_get s.goals k ≡ Some (name, d) → slice_get (file s).goals k ≡ Some g → results ≡ d.results
     → map sort_of g.results ≡ map (λ (at : TermId). sort_of (term_at s.terms at)) results
 goal_sorts s k name d g results e h as' =
-    ap (λ (x : Goal). map sort_of x.results) (goal_is s k name d g e h) ∙ sorts-map (terms_of s.terms) d.results ∙ ap (map (λ (at : TermId). sort_of (term_at s.terms at))) (sym as')
+    ap (λ (x : Goal). map sort_of x.results) (goal_is s k name d g e h) ∙ sorts-map (terms_of s.terms) d.results
+    ∙ ap (map (λ (at : TermId). sort_of (term_at s.terms at))) (sym as')
 
 -- ---- a node that fits
 
-pub fitting-answer : (s : Spec) (g : Goal) (nodes : List Node) (place k : ℕ) (n : Node) (name : List ℕ) (d : OpDef) (widths numbers : List ℕ) (args : List Src) (sorts : List Sort) (b : Bool)
-    → k ≡ n.op → slice_get s.ops k ≡ Some (name, d) → widths ≡ d.attrs → numbers ≡ n.attrs → args ≡ n.args → sorts ≡ d.args → Pairwise (λ w a. a < 2 ^ w) widths numbers
-    → (b ≡ true) ↔ (map (source_sort (file s) g nodes place) args ≡ map (λ (x : Sort). Some x) sorts) → (b ≡ true) ↔ IsFitting (file s) g nodes place n
+pub fitting-answer : (s : Spec) (g : Goal) (nodes : List Node) (place k : ℕ) (n : Node) (name : List ℕ) (d : OpDef)
+    (widths numbers : List ℕ) (args : List Src) (sorts : List Sort) (b : Bool)
+    → k ≡ n.op → slice_get s.ops k ≡ Some (name, d) → widths ≡ d.attrs → numbers ≡ n.attrs → args ≡ n.args
+    → sorts ≡ d.args → Pairwise (λ w a. a < 2 ^ w) widths numbers
+    → (b ≡ true) ↔ (map (source_sort (file s) g nodes place) args ≡ map (λ (x : Sort). Some x) sorts)
+    → (b ≡ true) ↔ IsFitting (file s) g nodes place n
 fitting-answer s g nodes place k n name d widths numbers args sorts b op e w m a t within iff =
     let o : Operation = operation s.terms (name, d) in
-    let there : slice_get (file s).ops n.op ≡ Some o = ap (slice_get (file s).ops) (sym op) ∙ operation_is s k name d e in (
+    let there : slice_get (file s).ops n.op ≡ Some o =
+    ap (slice_get (file s).ops) (sym op) ∙ operation_is s k name d e in (
       λ yes. record {
         operation = o;
         in_file = there;
-        attrs = subst (λ ns. Pairwise (λ w a. a < 2 ^ w) d.attrs ns) m (subst (λ ws. Pairwise (λ w a. a < 2 ^ w) ws numbers) w within);
+        attrs =
+            subst (λ ns. Pairwise (λ w a. a < 2 ^ w) d.attrs ns) m
+            (subst (λ ws. Pairwise (λ w a. a < 2 ^ w) ws numbers) w within);
         args = ap (map (source_sort (file s) g nodes place)) (sym a) ∙ iff.0 yes ∙ ap (map (λ (x : Sort). Some x)) t;
       },
       λ fit. let same : fit.operation ≡ o = same_Some fit.operation o (sym fit.in_file ∙ there) in
-          iff.1 (ap (map (source_sort (file s) g nodes place)) a ∙ fit.args ∙ ap (λ (x : Operation). map (λ (y : Sort). Some y) x.args) same ∙ ap (map (λ (x : Sort). Some x)) (sym t)),
+          iff.1 (ap (map (source_sort (file s) g nodes place)) a ∙ fit.args
+          ∙ ap (λ (x : Operation). map (λ (y : Sort). Some y) x.args) same
+          ∙ ap (map (λ (x : Sort). Some x)) (sym t)),
     )
 
 -- ---- what names a node
 
-pub none_among : (node : ℕ) (xs : List Src) (i : ℕ) → length xs ≤ i → All (λ s. IsOf node s → ⊥) (take i xs) → IsAmong node xs → ⊥
+pub none_among : (node : ℕ) (xs : List Src) (i : ℕ) → length xs ≤ i → All (λ s. IsOf node s → ⊥) (take i xs)
+    → IsAmong node xs → ⊥
 none_among node xs i l all h =
     let whole : All (λ s. IsOf node s → ⊥) xs = subst (All (λ s. IsOf node s → ⊥)) (take_all i xs l) all in
     All-get_or (λ s. IsOf node s → ⊥) xs h.1.0 (Out node h.0) h.1.1 whole (h.0, h.1.2)
 
-none_in : (node r : ℕ) (nodes : List Node) → All (λ (n : Node). IsAmong node n.args → ⊥) nodes → (j : ℕ) → Contains (args_of (slice_get nodes j)) (Out node r) → ⊥
+none_in : (node r : ℕ) (nodes : List Node) → All (λ (n : Node). IsAmong node n.args → ⊥) nodes → (j : ℕ)
+    → Contains (args_of (slice_get nodes j)) (Out node r) → ⊥
 none_in node r [] all j h = omega (arith, h.1)
 none_in node r (n ∷ ns) all zero h = All-head (λ (n : Node). IsAmong node n.args → ⊥) n ns all (r, h)
-none_in node r (n ∷ ns) all (suc j) h = none_in node r ns (All-tail (λ (n : Node). IsAmong node n.args → ⊥) n ns all) j h
+none_in node r (n ∷ ns) all (suc j) h =
+    none_in node r ns (All-tail (λ (n : Node). IsAmong node n.args → ⊥) n ns all) j h
 
-pub named-answer : (p : Pattern) (node : ℕ) (nodes : List Node) (xs : List Src) (i : ℕ) (b : Bool) → nodes ≡ p.nodes → xs ≡ p.results → length nodes ≤ i → All (λ (n : Node). IsAmong node n.args → ⊥) (take i nodes)
-    → (b ≡ true) ↔ IsAmong node xs → (b ≡ true) ↔ IsNamed p node
-named-answer p node nodes xs i b e f l all iff =
-    let whole : All (λ (n : Node). IsAmong node n.args → ⊥) p.nodes = subst (All (λ (n : Node). IsAmong node n.args → ⊥)) (take_all i nodes l ∙ e) all in (
+pub used-answer : (p : Pattern) (node : ℕ) (nodes : List Node) (xs : List Src) (i : ℕ) (b : Bool) → nodes ≡ p.nodes
+    → xs ≡ p.results → length nodes ≤ i → All (λ (n : Node). IsAmong node n.args → ⊥) (take i nodes)
+    → (b ≡ true) ↔ IsAmong node xs → (b ≡ true) ↔ IsUsed p node
+used-answer p node nodes xs i b e f l all iff =
+    let whole : All (λ (n : Node). IsAmong node n.args → ⊥) p.nodes =
+    subst (All (λ (n : Node). IsAmong node n.args → ⊥)) (take_all i nodes l ∙ e) all in (
       λ yes. let a = iff.0 yes in (a.0, inl (subst (λ ys. Contains ys (Out node a.0)) f a.1)),
       λ h. elim h.1 [
         | inl a ↦ iff.1 (h.0, subst (λ ys. Contains ys (Out node h.0)) (sym f) a)
@@ -147,5 +183,6 @@ named-answer p node nodes xs i b e f l all iff =
 
 -- ---- results
 
-pub results-of : (f : File) (g : Goal) (p : Pattern) (nodes : List Node) (xs : List Src) → nodes ≡ p.nodes → xs ≡ p.results → IsWellFormed f g p → map (source_sort f g nodes (length nodes)) xs ≡ map sort_of g.results
+pub results-of : (f : File) (g : Goal) (p : Pattern) (nodes : List Node) (xs : List Src) → nodes ≡ p.nodes
+    → xs ≡ p.results → IsWellFormed f g p → map (source_sort f g nodes (length nodes)) xs ≡ map sort_of g.results
 results-of f g p nodes xs e x wf = (λ i. map (source_sort f g (e i) (length (e i))) (x i)) ∙ wf.results

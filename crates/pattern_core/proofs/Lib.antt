@@ -1,5 +1,5 @@
 pub mod OrderLemmas
 pub mod WalkLemmas
-pub mod SoundLemmas
 pub mod FitLemmas
 pub mod EvalLemmas
+pub mod TotalLemmas

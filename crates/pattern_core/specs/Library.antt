@@ -5,13 +5,14 @@ use Rattle.pattern_core.specs.declared.pattern.GoalAnswer.{GoalAnswer}
 use Rattle.pattern_core.specs.declared.pattern.GoalAnswer.TheVariants as answer
 use Rattle.pattern_core.specs.declared.pattern.Pattern.{Pattern}
 use Rattle.isel_spec.specs.File.{File, Goal}
-use Rattle.pattern_core.specs.Pattern.{IsWellFormed, IsRule}
+use Rattle.pattern_core.specs.Pattern.{IsWellFormed, HasNoMemory, IsRule}
 use Rattle.pattern_core.specs.Walk.{IsCanonical}
 use Rattle.pattern_core.specs.Order.{pattern_cmp, IsRising}
 
 -- no well-formed pattern of at most this size is a rule
-abbrev pub HasNoRule : File → Goal → ℕ → Type 0
-HasNoRule f g size = (p : Pattern) → IsWellFormed f g p → length p.nodes ≤ size → IsRule f g p → ⊥
+pub record HasNoRule (f : File) (g : Goal) (size : ℕ) : Type 0 where
+  pub no_memory : HasNoMemory g
+  pub none : (p : Pattern) → IsWellFormed f g p → length p.nodes ≤ size → IsRule f g p → ⊥
 
 -- some is, of this size, and none is smaller
 pub record IsLeastSize (f : File) (g : Goal) (size : ℕ) : Type 0 where
@@ -23,12 +24,15 @@ pub record IsLeastSize (f : File) (g : Goal) (size : ℕ) : Type 0 where
 
 -- the canonical rules of this size, in order, each once
 pub record AreRules (f : File) (g : Goal) (size : ℕ) (rules : List Pattern) : Type 0 where
+  pub no_memory : HasNoMemory g
   pub rising : IsRising pattern_cmp rules
-  pub members : (p : Pattern) → Contains rules p ↔ (IsWellFormed f g p × IsCanonical p × (length p.nodes ≡ size) × IsRule f g p)
+  pub members : (p : Pattern)
+      → Contains rules p ↔ (IsWellFormed f g p × IsCanonical p × (length p.nodes ≡ size) × IsRule f g p)
 
 abbrev pub IsLibrary : File → Goal → ℕ → List Pattern → Type 0
 IsLibrary f g bound rules =
-    (HasNoRule f g bound × (rules ≡ [])) ⊎ ((size : ℕ) × (size ≤ bound) × IsLeastSize f g size × AreRules f g size rules)
+    (HasNoRule f g bound × (rules ≡ []))
+    ⊎ ((size : ℕ) × (size ≤ bound) × IsLeastSize f g size × AreRules f g size rules)
 
 -- a pattern that a library may list: it gives the goal's results on every input
 pub record IsRight (f : File) (g : Goal) (bound size : ℕ) (p : Pattern) : Type 0 where
@@ -38,7 +42,9 @@ pub record IsRight (f : File) (g : Goal) (bound size : ℕ) (p : Pattern) : Type
   pub within : size ≤ bound
   pub rule : IsRule f g p
 
--- right on every input, with none missing: all the patterns of the least size that has one, or none exists within the bound
+-- right on every input, with none missing: all the patterns of the least size that has one, or there are none within
+-- the bound
 abbrev pub IsAnswer : File → Goal → ℕ → GoalAnswer → Type 0
-IsAnswer f g bound (answer.Complete size rules) = (rules ≢ []) × All (IsRight f g bound size) rules × IsLibrary f g bound rules
+IsAnswer f g bound (answer.Complete size rules) =
+    (rules ≢ []) × All (IsRight f g bound size) rules × IsLibrary f g bound rules
 IsAnswer f g bound answer.None = IsLibrary f g bound []

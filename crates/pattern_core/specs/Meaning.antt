@@ -11,4 +11,5 @@ use Rattle.pattern_core.specs.Pattern.{source_value, attr_values}
 -- a node whose operation is there, and whose arguments and attributes have values of its sorts
 pub record IsNodeGiven (s : Spec) (n : Node) (inputs : List Value) (outs : List (List Value)) : Type 0 where
   pub there : n.op < length s.ops
-  pub sorted : (name : List ℕ) (d : OpDef) → slice_get s.ops n.op ≡ Some (name, d) → HaveSorts (scope d) (map (source_value inputs outs) n.args ++ attr_values d.attrs n.attrs)
+  pub sorted : (name : List ℕ) (d : OpDef) → slice_get s.ops n.op ≡ Some (name, d)
+      → HaveSorts (scope d) (map (source_value inputs outs) n.args ++ attr_values d.attrs n.attrs)

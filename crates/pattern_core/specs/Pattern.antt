@@ -1,7 +1,10 @@
 -- Patterns: which are well-formed for a goal, and what they compute.
--- Patterns as programs over components: Gulwani, Jha, Tiwari, Venkatesan, PLDI 2011; rules: Buchwald, Fried, Hack, CGO 2018.
-use Rattle.std.specs.Prelude.{◌≡◌, ℕ, ◌^◌, ◌<◌, ◌≤◌, List, [], ◌∷◌, ◌++◌, length, map, Option, Some, None, slice_get, unwrap_or, false, Contains, nat_lt, option_and_then, ◌⊎◌, if◌then◌else◌}
+-- Patterns as programs over components: Gulwani, Jha, Tiwari, Venkatesan, PLDI 2011.
+-- Rules: Buchwald, Fried, Hack, CGO 2018.
+use Rattle.std.specs.Prelude.{◌≡◌, ℕ, ◌^◌, ◌<◌, ◌≤◌, List, [], ◌∷◌, ◌++◌, length, map, Option, Some, None, slice_get}
+use Rattle.std.specs.Prelude.{unwrap_or, false, Contains, nat_lt, option_and_then, ◌⊎◌, if◌then◌else◌}
 use Rattle.bv_terms.specs.declared.value.Sort.{Sort}
+use Rattle.bv_terms.specs.declared.value.Sort.TheVariants as sort
 use Rattle.bv_terms.specs.declared.value.Value.{Value}
 use Rattle.bv_terms.specs.declared.value.Value.TheVariants as val
 use Rattle.bv_terms.specs.Term.{value}
@@ -15,7 +18,8 @@ use Rattle.pattern_core.specs.declared.pattern.Pattern.{Pattern}
 -- the value of a source, where the inputs and the nodes' results have these values
 abbrev pub source_value : List Value → List (List Value) → Src → Value
 source_value inputs outs (Input k) = unwrap_or (slice_get inputs k) (val.Bool false)
-source_value inputs outs (Out node result) = unwrap_or (slice_get (unwrap_or (slice_get outs node) []) result) (val.Bool false)
+source_value inputs outs (Out node result) =
+    unwrap_or (slice_get (unwrap_or (slice_get outs node) []) result) (val.Bool false)
 
 -- numbers as bit-vectors of these widths
 abbrev pub attr_values : List ℕ → List ℕ → List Value
@@ -31,7 +35,8 @@ op_results (Some o) attrs args = map (value (args ++ attr_values o.attrs attrs))
 abbrev pub outs_from : File → List Value → List (List Value) → List Node → List (List Value)
 outs_from f inputs outs [] = outs
 outs_from f inputs outs (n ∷ ns) =
-    outs_from f inputs (outs ++ op_results (slice_get f.ops n.op) n.attrs (map (source_value inputs outs) n.args) ∷ []) ns
+    let results = op_results (slice_get f.ops n.op) n.attrs (map (source_value inputs outs) n.args) in
+    outs_from f inputs (outs ++ results ∷ []) ns
 
 abbrev pub pattern_results : File → Pattern → List Value → List Value
 pattern_results f p inputs = map (source_value inputs (outs_from f inputs [] p.nodes)) p.results
@@ -39,9 +44,16 @@ pattern_results f p inputs = map (source_value inputs (outs_from f inputs [] p.n
 abbrev pub goal_results : Goal → List Value → List Value
 goal_results g inputs = map (value inputs) g.results
 
+-- No argument and no result of the goal is a memory. Nothing is claimed of any other goal: a memory has no values yet,
+-- so each pattern would give the results of a goal that takes one, on all of its inputs.
+pub record HasNoMemory (g : Goal) : Type 0 where
+  pub args : ¬ Contains g.args sort.Mem
+  pub results : ¬ Contains (map sort_of g.results) (Some sort.Mem)
+
 -- the pattern gives the goal's results on every input
-abbrev pub IsRule : File → Goal → Pattern → Type 0
-IsRule f g p = (inputs : List Value) → HaveSorts g.args inputs → pattern_results f p inputs ≡ goal_results g inputs
+pub record IsRule (f : File) (g : Goal) (p : Pattern) : Type 0 where
+  pub no_memory : HasNoMemory g
+  pub same : (inputs : List Value) → HaveSorts g.args inputs → pattern_results f p inputs ≡ goal_results g inputs
 
 -- the sort of an operation's result, where it has it
 abbrev pub operation_sort : Option Operation → ℕ → Option Sort
@@ -85,13 +97,16 @@ IsOf k s = (result : ℕ) × (s ≡ Out k result)
 abbrev pub IsAmong : ℕ → List Src → Type 0
 IsAmong k sources = (result : ℕ) × Contains sources (Out k result)
 
--- a later node or a result names node k
-abbrev pub IsNamed : Pattern → ℕ → Type 0
-IsNamed p k = (result : ℕ) × (Contains p.results (Out k result) ⊎ ((j : ℕ) × Contains (args_of (slice_get p.nodes j)) (Out k result)))
+-- a later node or a result uses node k
+abbrev pub IsUsed : Pattern → ℕ → Type 0
+IsUsed p k =
+    (result : ℕ)
+    × (Contains p.results (Out k result)
+    ⊎ ((j : ℕ) × Contains (args_of (slice_get p.nodes j)) (Out k result)))
 
 -- what is a pattern for a goal
 pub record IsWellFormed (f : File) (g : Goal) (p : Pattern) : Type 0 where
   pub size : length p.nodes ≤ 6
   pub nodes : AreFitting f g p.nodes
   pub results : map (source_sort f g p.nodes (length p.nodes)) p.results ≡ map sort_of g.results
-  pub named : (k : ℕ) → k < length p.nodes → IsNamed p k
+  pub used : (k : ℕ) → k < length p.nodes → IsUsed p k

@@ -1,6 +1,7 @@
--- The walk of a pattern: from the results in order, through the arguments of each node from left to right. A node is entered once,
--- and left after its arguments. A depth-first postorder, as in the textbooks on graphs.
-use Rattle.std.specs.Prelude.{◌≡◌, ℕ, zero, suc, ◌<◌, List, [], ◌∷◌, ◌++◌, length, slice_get, nat_eq, fold, if◌then◌else◌, Option, Some, None, All}
+-- The walk of a pattern: from the results in order, through the arguments of each node from left to right. A node is
+-- entered once, and left after its arguments. A depth-first postorder, as in the textbooks on graphs.
+use Rattle.std.specs.Prelude.{◌≡◌, ℕ, zero, suc, ◌<◌, List, [], ◌∷◌, ◌++◌, length, slice_get, nat_eq, fold}
+use Rattle.std.specs.Prelude.{if◌then◌else◌, Option, Some, None, All}
 use Rattle.std.specs.List.{list_any}
 use Rattle.pattern_core.specs.declared.pattern.Src.{Src}
 use Rattle.pattern_core.specs.declared.pattern.Src.TheVariants.{Input, Out}
@@ -8,7 +9,7 @@ use Rattle.pattern_core.specs.declared.pattern.Node.{Node}
 use Rattle.pattern_core.specs.declared.pattern.Pattern.{Pattern}
 use Rattle.pattern_core.specs.Pattern.{args_of}
 
--- the nodes that the walk from a source has left, after those that it had left before; at most so many nodes deep
+-- the nodes that the walk from a source has left, after those that it had left before; at most that many nodes deep
 unfoldable pub walk : ℕ → List Node → List ℕ → Src → List ℕ
 walk deep nodes left (Input k) = left
 walk zero nodes left (Out node result) = left

@@ -1,23 +1,48 @@
-//! The values that goals and patterns give.
+//! The values that goals and patterns give. A pattern's nodes are evaluated in order, and the results so
+//! far have their operations' sorts.
 
-ghost use Rattle.std.specs.Prelude.{◌≡◌, ℕ, ◌<◌, ◌≤◌, ◌++◌, List, [], length, map, Some, slice_get, unwrap_or, false, IfOk, OnOk, All};
+ghost use Rattle.std.specs.Prelude.{◌≡◌, ℕ, ◌<◌, ◌≤◌, ◌++◌, List, [], length, map, Some, slice_get, unwrap_or, false};
+ghost use Rattle.std.specs.Prelude.{IfOk, OnOk, All};
 ghost use Rattle.bv_terms.specs.declared.op.TermId.{TermId};
 ghost use Rattle.bv_terms.specs.Term.{value};
+ghost use Rattle.bv_terms.specs.Eval.{values_in};
 ghost use Rattle.bv_terms.specs.Sorts.{HaveSorts, InputsFit};
 ghost use Rattle.bv_terms.specs.Table.{term_at};
 ghost use Rattle.isel_spec.specs.File.{Goal};
 ghost use Rattle.isel_spec.specs.Spec.{file};
-ghost use Rattle.pattern_core.specs.Pattern.{source_value, attr_values, op_results, outs_from, pattern_results, goal_results, AreFitting, IsWellFormed};
+ghost use Rattle.pattern_core.specs.Pattern.{source_value, attr_values, op_results, outs_from, pattern_results};
+ghost use Rattle.pattern_core.specs.Pattern.{goal_results, AreFitting, IsWellFormed};
 ghost use Rattle.pattern_core.specs.Meaning.{IsNodeGiven};
 
 use crate::pattern::{Node, Pattern, Src};
-use crate::well_formed::{goal_at, operation_at};
 use bv_terms::{Env, TermId, Terms, Value};
-use isel_spec::{OpDef, Spec};
 use collections::Seq;
+use isel_spec::{OpDef, Spec};
 use std::alloc::{AllocError, Global};
 
-/// The values of terms of a table, in order. `room` has a place for each node of the table.
+/// The value in a place; past the end, where no source of a well-formed pattern leads, some value.
+fn value_at(values: &[Value], place: usize) -> Value
+    ensures { result ≡ unwrap_or (slice_get values.now place) (Value.Bool false) }
+{
+    if place >= values.len() {
+        return Value::Bool(false);
+    }
+    values[place]
+}
+
+/// What stands in the places of nodes, in order.
+fn values_at(alloc: Global, nodes: &[TermId], room: &[Value]) -> Result<Vec<Value>, AllocError>
+    ensures { IfOk result (λ v. v.items ≡ values_in room.now nodes.now) }
+{
+    let mut values = Vec::new(alloc);
+    for at in nodes {
+        values.push(value_at(room, at.0))?;
+    }
+    Ok(values)
+}
+
+/// The values of terms of a table, in order. `room` has a place for each node of the table, but only
+/// the nodes of the terms' subterms are evaluated.
 fn values_of(
     alloc: Global,
     terms: &Terms,
@@ -28,16 +53,17 @@ fn values_of(
     requires there { All (λ (at : TermId). at.0 < length terms.now.nodes) results.now }
     requires inputs { All (λ (at : TermId). InputsFit env.now.values (term_at terms.now at)) results.now }
     requires room { length terms.now.nodes ≤ length room.old }
-    ensures { IfOk result (λ v. v.items ≡ map (λ (at : TermId). value env.now.values (term_at terms.now at)) results.now) }
+    ensures { IfOk result (λ v.
+        v.items ≡ map (λ (at : TermId). value env.now.values (term_at terms.now at)) results.now) }
 {
-    let mut values = Vec::new(alloc);
-    for at in results {
-        values.push(terms.eval(*at, env, room))?;
-    }
-    Ok(values)
+    // That inputs which fit the terms fit their subterms rests on the table, as `len` tells it.
+    terms.len();
+    let nodes = terms.subterms(alloc, results)?;
+    terms.eval_nodes(&nodes, env, room);
+    values_at(alloc, results, room)
 }
 
-/// The goal's results where its arguments have these values. An `Err` is want of memory.
+/// The goal's results where its arguments have these values. An `Err` is out of memory.
 pub fn eval_goal(
     alloc: Global,
     spec: &Spec,
@@ -46,25 +72,16 @@ pub fn eval_goal(
 ) -> Result<Vec<Value>, AllocError>
     requires there { goal < length spec.now.goals }
     requires inputs { (g : Goal) → slice_get (file spec.now).goals goal ≡ Some g → HaveSorts g.args inputs.now }
-    ensures { IfOk result (λ v. (g : Goal) → slice_get (file spec.now).goals goal ≡ Some g → v.items ≡ goal_results g inputs.now) }
+    ensures { IfOk result (λ v. (g : Goal) → slice_get (file spec.now).goals goal ≡ Some g
+        → v.items ≡ goal_results g inputs.now) }
 {
     let mut room = vec![in alloc; Value::Bool(false); spec.terms.len()]?;
-    let definition = goal_at(spec, goal);
+    let definition = spec.goal(goal);
     let env = Env {
         values: Seq::from_vec(Vec::from_slice(alloc, inputs)?),
     };
     let results = definition.results.as_slice();
     values_of(alloc, &spec.terms, results, &env, &mut room)
-}
-
-/// The value in a place; past the end, where no source of a well-formed pattern leads, some value.
-fn value_at(values: &[Value], place: usize) -> Value
-    ensures { result ≡ unwrap_or (slice_get values.now place) (Value.Bool false) }
-{
-    if place >= values.len() {
-        return Value::Bool(false);
-    }
-    values[place]
 }
 
 /// The value of a source, where the inputs and the results of the nodes so far have these values.
@@ -120,7 +137,8 @@ fn node_inputs(
     inputs: &[Value],
     outs: &[Seq<Value>],
 ) -> Result<Env, AllocError>
-    ensures { IfOk result (λ env. env.values ≡ map (source_value inputs.now outs.now) node.now.args ++ attr_values operation.now.attrs node.now.attrs) }
+    ensures { IfOk result (λ env. env.values ≡ map (source_value inputs.now outs.now) node.now.args
+        ++ attr_values operation.now.attrs node.now.attrs) }
 {
     let mut values = source_values(alloc, inputs, outs, node.args.as_slice())?;
     add_attributes(
@@ -144,9 +162,10 @@ fn node_results(
 ) -> Result<Vec<Value>, AllocError>
     requires given { IsNodeGiven spec.now node.now inputs.now outs.now }
     requires room { length spec.now.terms.nodes ≤ length room.old }
-    ensures { IfOk result (λ v. v.items ≡ op_results (slice_get (file spec.now).ops node.now.op) node.now.attrs (map (source_value inputs.now outs.now) node.now.args)) }
+    ensures { IfOk result (λ v. v.items ≡ op_results (slice_get (file spec.now).ops node.now.op) node.now.attrs
+        (map (source_value inputs.now outs.now) node.now.args)) }
 {
-    let operation = operation_at(spec, usize::from(node.op));
+    let operation = spec.op(usize::from(node.op));
     let env = node_inputs(alloc, operation, node, inputs, outs)?;
     let results = operation.results.as_slice();
     values_of(alloc, &spec.terms, results, &env, room)
@@ -162,7 +181,8 @@ fn all_results(
     room: &mut [Value],
 ) -> Result<Vec<Seq<Value>>, AllocError>
     requires there { goal < length spec.now.goals }
-    requires fits { (g : Goal) → slice_get (file spec.now).goals goal ≡ Some g → AreFitting (file spec.now) g nodes.now }
+    requires fits { (g : Goal) → slice_get (file spec.now).goals goal ≡ Some g
+        → AreFitting (file spec.now) g nodes.now }
     requires inputs { (g : Goal) → slice_get (file spec.now).goals goal ≡ Some g → HaveSorts g.args inputs.now }
     requires room { length spec.now.terms.nodes ≤ length room.old }
     ensures { IfOk result (λ outs. outs.items ≡ outs_from (file spec.now) inputs.now [] nodes.now) }
@@ -177,7 +197,7 @@ fn all_results(
 }
 
 /// The results of a pattern that is well-formed for the goal, where the goal's arguments have these
-/// values. An `Err` is want of memory.
+/// values. An `Err` is out of memory.
 pub fn eval(
     alloc: Global,
     spec: &Spec,
@@ -186,7 +206,8 @@ pub fn eval(
     inputs: &[Value],
 ) -> Result<Vec<Value>, AllocError>
     requires there { goal < length spec.now.goals }
-    requires well_formed { (g : Goal) → slice_get (file spec.now).goals goal ≡ Some g → IsWellFormed (file spec.now) g pattern.now }
+    requires well_formed { (g : Goal) → slice_get (file spec.now).goals goal ≡ Some g
+        → IsWellFormed (file spec.now) g pattern.now }
     requires inputs { (g : Goal) → slice_get (file spec.now).goals goal ≡ Some g → HaveSorts g.args inputs.now }
     ensures { IfOk result (λ v. v.items ≡ pattern_results (file spec.now) pattern.now inputs.now) }
 {

@@ -1,3 +1,6 @@
+//! Patterns and what is said of a goal. They are plain data: which are well-formed for a goal of a file
+//! is a test of its own.
+
 use collections::Seq;
 
 /// Where an argument of a node or a result of a pattern comes from: an input of the goal, or a

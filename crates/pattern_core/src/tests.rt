@@ -1,3 +1,5 @@
+//! Patterns that differ in each of the ways that the order looks at, from the least to the greatest.
+
 ghost use Rattle.std.specs.Prelude.{◌≡◌, ◌≤◌, length, IfOk};
 
 use crate::{Node, Pattern, Src, order};

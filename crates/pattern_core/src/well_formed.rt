@@ -1,41 +1,17 @@
-//! Whether a pattern is well-formed for a goal.
+//! Whether a pattern is well-formed for a goal: each test of a part is exact, and so is the whole.
 
 ghost use Rattle.std.specs.Prelude.{◌≡◌, ◌↔◌, ℕ, ◌<◌, ◌≤◌, ◌^◌, List, length, map, Some, slice_get, IsTrue};
 ghost use Rattle.bv_terms.specs.declared.value.Sort.{Sort};
-ghost use Rattle.bv_terms.specs.Sorts.{same_sort, sort_of};
+ghost use Rattle.bv_terms.specs.Sorts.{sort_of};
 ghost use Rattle.pattern_core.specs.declared.pattern.Node.{Node};
 ghost use Rattle.isel_spec.specs.File.{Goal};
 ghost use Rattle.isel_spec.specs.Spec.{file};
-ghost use Rattle.pattern_core.specs.Pattern.{operation_sort, source_sort, Pairwise, IsFitting, AreFitting, IsOf, IsAmong, IsNamed, IsWellFormed};
+ghost use Rattle.pattern_core.specs.Pattern.{operation_sort, source_sort, Pairwise, IsFitting, AreFitting, IsOf};
+ghost use Rattle.pattern_core.specs.Pattern.{IsAmong, IsUsed, IsWellFormed};
 
 use crate::pattern::{Node, Pattern, Src};
 use bv_terms::Sort;
-use isel_spec::{GoalDef, OpDef, Spec};
-
-/// The goal in a place.
-pub(crate) fn goal_at(spec: &Spec, place: u32) -> &GoalDef
-    requires { place < length spec.now.goals }
-    ensures { (name : List ℕ) × (slice_get spec.now.goals place ≡ Some (name, result.now)) }
-{
-    let (_, definition) = spec.goals.get(place as usize).unwrap();
-    definition
-}
-
-/// The operation in a place.
-pub(crate) fn operation_at(spec: &Spec, place: usize) -> &OpDef
-    requires { place < length spec.now.ops }
-    ensures { (name : List ℕ) × (slice_get spec.now.ops place ≡ Some (name, result.now)) }
-{
-    let (_, definition) = spec.ops.get(place).unwrap();
-    definition
-}
-
-/// Whether two sorts are equal, widths included.
-fn is_same(left: Sort, right: Sort) -> bool
-    ensures { result ≡ same_sort left right }
-{
-    left == right
-}
+use isel_spec::Spec;
 
 /// Whether there is a sort, namely this one.
 fn has_sort(found: Option<Sort>, sort: Sort) -> bool
@@ -44,7 +20,7 @@ fn has_sort(found: Option<Sort>, sort: Sort) -> bool
     let Some(other) = found else {
         return false;
     };
-    is_same(other, sort)
+    other.is_same(sort)
 }
 
 /// The sort of a result of an operation, where the file has the operation and it has the result.
@@ -55,7 +31,7 @@ fn operation_sort(spec: &Spec, op: u16, place: u8) -> Option<Sort>
     if op >= spec.ops.len() {
         return None;
     }
-    let results = operation_at(spec, op).results.as_slice();
+    let results = spec.op(op).results.as_slice();
     let place = usize::from(place);
     if place >= results.len() {
         return None;
@@ -68,7 +44,7 @@ fn input_sort(spec: &Spec, goal: u32, input: u8) -> Option<Sort>
     requires { goal < length spec.now.goals }
     ensures { (g : Goal) → slice_get (file spec.now).goals goal ≡ Some g → result ≡ slice_get g.args input }
 {
-    let arguments = goal_at(spec, goal).args.as_slice();
+    let arguments = spec.goal(goal).args.as_slice();
     let input = usize::from(input);
     if input >= arguments.len() {
         return None;
@@ -77,11 +53,12 @@ fn input_sort(spec: &Spec, goal: u32, input: u8) -> Option<Sort>
     Some(sort)
 }
 
-/// The sort of a source of a node or a result that stands after so many nodes, where it has one.
+/// The sort of a source of a node or a result that stands after `count` nodes, where it has one.
 fn source_sort(spec: &Spec, goal: u32, nodes: &[Node], count: usize, source: Src) -> Option<Sort>
     requires there { goal < length spec.now.goals }
     requires within { count ≤ length nodes.now }
-    ensures { (g : Goal) → slice_get (file spec.now).goals goal ≡ Some g → result ≡ source_sort (file spec.now) g nodes.now count source }
+    ensures { (g : Goal) → slice_get (file spec.now).goals goal ≡ Some g
+        → result ≡ source_sort (file spec.now) g nodes.now count source }
 {
     match source {
         Src::Input(input) => input_sort(spec, goal, input),
@@ -95,7 +72,7 @@ fn source_sort(spec: &Spec, goal: u32, nodes: &[Node], count: usize, source: Src
     }
 }
 
-/// Whether sources of a node or of results that stand after so many nodes have these sorts.
+/// Whether sources of a node or of results that stand after `count` nodes have these sorts.
 fn have_sorts(
     spec: &Spec,
     goal: u32,
@@ -107,7 +84,8 @@ fn have_sorts(
     requires there { goal < length spec.now.goals }
     requires within { count ≤ length nodes.now }
     ensures { (g : Goal) → slice_get (file spec.now).goals goal ≡ Some g →
-        (IsTrue result ↔ (map (source_sort (file spec.now) g nodes.now count) sources.now ≡ map (λ (s : Sort). Some s) sorts.now)) }
+        (IsTrue result
+        ↔ (map (source_sort (file spec.now) g nodes.now count) sources.now ≡ map (λ (s : Sort). Some s) sorts.now)) }
 {
     if sources.len() != sorts.len() {
         return false;
@@ -125,9 +103,10 @@ fn have_sorts(
 fn have_result_sorts(spec: &Spec, goal: u32, nodes: &[Node], sources: &[Src]) -> bool
     requires { goal < length spec.now.goals }
     ensures { (g : Goal) → slice_get (file spec.now).goals goal ≡ Some g →
-        (IsTrue result ↔ (map (source_sort (file spec.now) g nodes.now (length nodes.now)) sources.now ≡ map sort_of g.results)) }
+        (IsTrue result
+        ↔ (map (source_sort (file spec.now) g nodes.now (length nodes.now)) sources.now ≡ map sort_of g.results)) }
 {
-    let results = goal_at(spec, goal).results.as_slice();
+    let results = spec.goal(goal).results.as_slice();
     if sources.len() != results.len() {
         return false;
     }
@@ -171,14 +150,15 @@ fn is_fitting(spec: &Spec, goal: u32, nodes: &[Node], place: usize) -> bool
     requires there { goal < length spec.now.goals }
     requires within { place < length nodes.now }
     ensures { (g : Goal) → slice_get (file spec.now).goals goal ≡ Some g →
-        (n : Node) → slice_get nodes.now place ≡ Some n → (IsTrue result ↔ IsFitting (file spec.now) g nodes.now place n) }
+        (n : Node) → slice_get nodes.now place ≡ Some n
+        → (IsTrue result ↔ IsFitting (file spec.now) g nodes.now place n) }
 {
     let node = &nodes[place];
     let op = usize::from(node.op);
     if op >= spec.ops.len() {
         return false;
     }
-    let operation = operation_at(spec, op);
+    let operation = spec.op(op);
     if !are_within(operation.attrs.as_slice(), node.attrs.as_slice()) {
         return false;
     }
@@ -196,7 +176,8 @@ fn is_fitting(spec: &Spec, goal: u32, nodes: &[Node], place: usize) -> bool
 /// Whether each node's operation is in the file, and its attributes and arguments fit.
 fn are_fitting(spec: &Spec, goal: u32, nodes: &[Node]) -> bool
     requires { goal < length spec.now.goals }
-    ensures { (g : Goal) → slice_get (file spec.now).goals goal ≡ Some g → (IsTrue result ↔ AreFitting (file spec.now) g nodes.now) }
+    ensures { (g : Goal) → slice_get (file spec.now).goals goal ≡ Some g
+        → (IsTrue result ↔ AreFitting (file spec.now) g nodes.now) }
 {
     for place in 0..nodes.len() {
         if !is_fitting(spec, goal, nodes, place) {
@@ -228,9 +209,9 @@ fn is_among(sources: &[Src], node: usize) -> bool
     false
 }
 
-/// Whether a node or a result of the pattern names the node.
-fn is_named(pattern: &Pattern, node: usize) -> bool
-    ensures { IsTrue result ↔ IsNamed pattern.now node }
+/// Whether a node or a result of the pattern uses the node.
+fn is_used(pattern: &Pattern, node: usize) -> bool
+    ensures { IsTrue result ↔ IsUsed pattern.now node }
 {
     for other in pattern.nodes.as_slice() {
         if is_among(other.args.as_slice(), node) {
@@ -240,12 +221,12 @@ fn is_named(pattern: &Pattern, node: usize) -> bool
     is_among(pattern.results.as_slice(), node)
 }
 
-/// Whether each node of the pattern is named.
-fn are_named(pattern: &Pattern) -> bool
-    ensures { IsTrue result ↔ ((k : ℕ) → k < length pattern.now.nodes → IsNamed pattern.now k) }
+/// Whether each node of the pattern is used.
+fn are_used(pattern: &Pattern) -> bool
+    ensures { IsTrue result ↔ ((k : ℕ) → k < length pattern.now.nodes → IsUsed pattern.now k) }
 {
     for node in 0..pattern.nodes.len() {
-        if !is_named(pattern, node) {
+        if !is_used(pattern, node) {
             return false;
         }
     }
@@ -254,16 +235,17 @@ fn are_named(pattern: &Pattern) -> bool
 
 /// Whether the pattern is well-formed for the goal in that place of the file: it has at most six
 /// nodes, its operations are in the file, each attribute is below 2^width, each argument and each
-/// result has a source of its sort, an input or an earlier node, and each node is named by another
-/// or by a result. It takes no memory.
+/// result has a source of its sort, an input or an earlier node, and each node is used by another or
+/// by a result. It takes no memory.
 pub fn is_well_formed(spec: &Spec, goal: u32, pattern: &Pattern) -> bool
     requires { goal < length spec.now.goals }
-    ensures { (g : Goal) → slice_get (file spec.now).goals goal ≡ Some g → (IsTrue result ↔ IsWellFormed (file spec.now) g pattern.now) }
+    ensures { (g : Goal) → slice_get (file spec.now).goals goal ≡ Some g
+        → (IsTrue result ↔ IsWellFormed (file spec.now) g pattern.now) }
 {
     let nodes = pattern.nodes.as_slice();
     if nodes.len() > 6 || !are_fitting(spec, goal, nodes) {
         return false;
     }
     let results = pattern.results.as_slice();
-    have_result_sorts(spec, goal, nodes, results) && are_named(pattern)
+    have_result_sorts(spec, goal, nodes, results) && are_used(pattern)
 }

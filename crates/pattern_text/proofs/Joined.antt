@@ -1,5 +1,6 @@
 -- Words joined by single spaces, one more at the end.
-use Rattle.std.proofs.Common.{◌≡◌, ℕ, suc, ◌+◌, ◌<◌, ◌≢◌, zero, List, [], ◌∷◌, ◌++◌, length, map, take, get_or, refl, ap, ◌∙◌, sym, append_assoc, arith}
+use Rattle.std.proofs.Common.{◌≡◌, ℕ, suc, ◌+◌, ◌<◌, ◌≢◌, zero, List, [], ◌∷◌, ◌++◌, length, map, take, get_or, refl}
+use Rattle.std.proofs.Common.{ap, ◌∙◌, sym, append_assoc, arith}
 use Rattle.std.proofs.lemmas.List.{take_more, length-take-le, map-append, length-map}
 use Rattle.pattern_text.specs.Text.{joined, gap}
 
@@ -9,7 +10,8 @@ joined-push [] w v = refl
 joined-push (x ∷ ws) w v =
     ap (λ rest. w ++ 32 ∷ rest) (joined-push ws x v) ∙ sym (append_assoc w (32 ∷ joined (x ∷ ws)) (32 ∷ v))
 
-joined-at : (ws : List (List ℕ)) (v : List ℕ) (i : ℕ) → length ws ≡ i → joined (ws ++ v ∷ []) ≡ joined ws ++ (gap i ++ v)
+joined-at : (ws : List (List ℕ)) (v : List ℕ) (i : ℕ) → length ws ≡ i
+    → joined (ws ++ v ∷ []) ≡ joined ws ++ (gap i ++ v)
 joined-at [] v i e = rw (← e) refl
 joined-at (w ∷ ws) v i e = rw (← e) (joined-push ws w v)
 
@@ -25,7 +27,8 @@ gap_after zero h = absurd (h refl)
 gap_after (suc n) h = refl
 
 -- an iteration of a loop that adds them to a text
-pub appended_more : {A : Type 0} (f : A → List ℕ) (xs : List A) (i : ℕ) (d : A) (start so mid new : List ℕ) → i < length xs
+pub appended_more : {A : Type 0} (f : A → List ℕ) (xs : List A) (i : ℕ) (d : A) (start so mid new : List ℕ)
+    → i < length xs
     → so ≡ start ++ joined (map f (take i xs)) → mid ≡ so ++ gap i → new ≡ mid ++ f (get_or xs i d)
     → new ≡ start ++ joined (map f (take (i + 1) xs))
 appended_more f xs i d start so mid new h e m n =

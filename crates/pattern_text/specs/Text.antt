@@ -44,12 +44,14 @@ node_text f n =
 -- (rule (NODE ..) (SRC ..))
 abbrev pub rule_text : File → Pattern → List ℕ
 rule_text f p =
-    line (codes " (rule (" ++ joined (map (node_text f) p.nodes) ++ codes ") (" ++ joined (map source_text p.results) ++ codes "))")
+    line (codes " (rule (" ++ joined (map (node_text f) p.nodes) ++ codes ") ("
+    ++ joined (map source_text p.results) ++ codes "))")
 
 -- the answer for the goal of that name
 abbrev pub answer_text : File → List ℕ → GoalAnswer → List ℕ
 answer_text f name (answer.Complete size rules) =
-    line (codes "(goal " ++ name ++ codes " complete " ++ decimal size) ++ flat_map (rule_text f) rules ++ line (codes ")")
+    line (codes "(goal " ++ name ++ codes " complete " ++ decimal size) ++ flat_map (rule_text f) rules
+    ++ line (codes ")")
 answer_text f name answer.None = line (codes "(goal " ++ name ++ codes " none)")
 
 -- the answer for a goal; past the last one, where there is none, nothing

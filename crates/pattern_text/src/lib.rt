@@ -1,4 +1,8 @@
-//! The text of a library: `write` writes the answers for a file's goals.
+//! The text of a library, which is a function of the file and the answers.
+//!
+//! - `write`: `write_library`, the text of an answer for each goal of a file.
+//!
+//! The format is this project's own.
 #![tactic(auto)]
 
 mod write;

@@ -1,8 +1,12 @@
+//! The writer of a library: each function adds to the text what `specs/Text` says, so the text so far is
+//! always that of what was written.
+
 ghost use Rattle.std.specs.Prelude.{◌≡◌, ◌++◌, IfOk, OnOk, map, codes, length, slice_get};
 ghost use Rattle.std.specs.List.{flat_map};
 ghost use Rattle.std.specs.String.{string_bytes};
 ghost use Rattle.std.specs.Fmt.{decimal};
-ghost use Rattle.pattern_text.specs.Text.{gap, joined, op_name, source_text, node_text, rule_text, answer_text, goal_text, library_text};
+ghost use Rattle.pattern_text.specs.Text.{gap, joined, op_name, source_text, node_text, rule_text, answer_text};
+ghost use Rattle.pattern_text.specs.Text.{goal_text, library_text};
 ghost use Rattle.isel_spec.specs.Spec.{file};
 
 use isel_spec::Spec;
@@ -43,7 +47,8 @@ fn push_sources(out: &mut String, sources: &[Src]) -> Result<(), AllocError>
 
 /// Adds numbers in decimal, each after a space.
 fn push_attrs(out: &mut String, attrs: &[u64]) -> Result<(), AllocError>
-    ensures { OnOk result (string_bytes out.new ≡ string_bytes out.old ++ flat_map (λ a. codes " " ++ decimal a) attrs.now) }
+    ensures { OnOk result (string_bytes out.new ≡ string_bytes out.old
+        ++ flat_map (λ a. codes " " ++ decimal a) attrs.now) }
 {
     for attr in attrs {
         write!(out, " {attr}")?;
@@ -53,7 +58,8 @@ fn push_attrs(out: &mut String, attrs: &[u64]) -> Result<(), AllocError>
 
 /// Adds sources, each after a space.
 fn push_args(out: &mut String, args: &[Src]) -> Result<(), AllocError>
-    ensures { OnOk result (string_bytes out.new ≡ string_bytes out.old ++ flat_map (λ s. codes " " ++ source_text s) args.now) }
+    ensures { OnOk result (string_bytes out.new ≡ string_bytes out.old
+        ++ flat_map (λ s. codes " " ++ source_text s) args.now) }
 {
     for arg in args {
         out.push_str(" ")?;
@@ -85,7 +91,8 @@ fn push_node(out: &mut String, spec: &Spec, node: &Node) -> Result<(), AllocErro
 
 /// Adds nodes with single spaces between.
 fn push_nodes(out: &mut String, spec: &Spec, nodes: &[Node]) -> Result<(), AllocError>
-    ensures { OnOk result (string_bytes out.new ≡ string_bytes out.old ++ joined (map (node_text (file spec.now)) nodes.now)) }
+    ensures { OnOk result (string_bytes out.new ≡ string_bytes out.old
+        ++ joined (map (node_text (file spec.now)) nodes.now)) }
 {
     for (place, node) in nodes.iter().enumerate() {
         push_gap(out, place)?;
@@ -107,7 +114,8 @@ fn push_rule(out: &mut String, spec: &Spec, pattern: &Pattern) -> Result<(), All
 
 /// Adds a line for each rule.
 fn push_rules(out: &mut String, spec: &Spec, rules: &[Pattern]) -> Result<(), AllocError>
-    ensures { OnOk result (string_bytes out.new ≡ string_bytes out.old ++ flat_map (rule_text (file spec.now)) rules.now) }
+    ensures { OnOk result (string_bytes out.new ≡ string_bytes out.old
+        ++ flat_map (rule_text (file spec.now)) rules.now) }
 {
     for rule in rules {
         push_rule(out, spec, rule)?;
@@ -122,7 +130,8 @@ fn push_answer(
     name: &str,
     answer: &GoalAnswer,
 ) -> Result<(), AllocError>
-    ensures { OnOk result (string_bytes out.new ≡ string_bytes out.old ++ answer_text (file spec.now) name.now answer.now) }
+    ensures { OnOk result (string_bytes out.new ≡ string_bytes out.old
+        ++ answer_text (file spec.now) name.now answer.now) }
 {
     match answer {
         GoalAnswer::Complete { size, rules } => {
@@ -141,7 +150,8 @@ fn push_goal(
     place: usize,
     answer: &GoalAnswer,
 ) -> Result<(), AllocError>
-    ensures { OnOk result (string_bytes out.new ≡ string_bytes out.old ++ goal_text (file spec.now) (slice_get (file spec.now).goals place) answer.now) }
+    ensures { OnOk result (string_bytes out.new ≡ string_bytes out.old
+        ++ goal_text (file spec.now) (slice_get (file spec.now).goals place) answer.now) }
 {
     match spec.goals.get(place) {
         Some((name, _)) => push_answer(out, spec, name, answer),

@@ -3,7 +3,9 @@ pub mod ReadLemmas
 pub mod InputLemmas
 pub mod TupleLemmas
 pub mod PatternLemmas
+pub mod MemoryLemmas
 pub mod RuleLemmas
 pub mod LibraryLemmas
 pub mod SoundLemmas
 pub mod TriedLemmas
+pub mod ResultLemmas

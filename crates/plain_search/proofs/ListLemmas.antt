@@ -1,5 +1,6 @@
 -- Membership by recursion, and lists whose elements stand in an order.
-use Rattle.std.proofs.Common.{◌≡◌, ℕ, zero, suc, ◌<◌, Bool, true, false, cond, List, [], ◌∷◌, ◌++◌, length, map, filter, get_or, Some, ◌⊎◌, inl, inr, refl, sym, ap, subst, ◌∙◌, arith, Contains, slice_get}
+use Rattle.std.proofs.Common.{◌≡◌, ℕ, zero, suc, ◌<◌, Bool, true, false, cond, List, [], ◌∷◌, ◌++◌, length, map, filter}
+use Rattle.std.proofs.Common.{get_or, Some, ◌⊎◌, inl, inr, refl, sym, ap, subst, ◌∙◌, arith, Contains, slice_get}
 use Rattle.std.specs.List.{list_all}
 use Rattle.std.proofs.lemmas.Bool.{and_parts}
 use Rattle.std.specs.declared.cmp.Ordering.{Ordering}
@@ -54,7 +55,8 @@ In_of_map f (z ∷ xs) y (inl e) = (z, inl refl, e)
 In_of_map f (z ∷ xs) y (inr h) = let r = In_of_map f xs y h in (r.0, inr r.1, r.2)
 
 -- what a filter keeps
-pub In-cond : {X : Type 0} (b : Bool) (z : X) (xs : List X) (x : X) → In (cond b (z ∷ xs) xs) x → ((z ≡ x) × (b ≡ true)) ⊎ In xs x
+pub In-cond : {X : Type 0} (b : Bool) (z : X) (xs : List X) (x : X) → In (cond b (z ∷ xs) xs) x
+    → ((z ≡ x) × (b ≡ true)) ⊎ In xs x
 In-cond true z xs x (inl e) = inl (e, refl)
 In-cond true z xs x (inr h) = inr h
 In-cond false z xs x h = inr h
@@ -81,7 +83,8 @@ abbrev pub IsOrdered : {X : Type 0} → (X → X → Type 0) → List X → Type
 IsOrdered R [] = Unit {0}
 IsOrdered {X} R (x ∷ xs) = ((y : X) → In xs y → R x y) × IsOrdered R xs
 
-pub IsOrdered-filter : {X : Type 0} (R : X → X → Type 0) (p : X → Bool) (xs : List X) → IsOrdered R xs → IsOrdered R (filter p xs)
+pub IsOrdered-filter : {X : Type 0} (R : X → X → Type 0) (p : X → Bool) (xs : List X) → IsOrdered R xs
+    → IsOrdered R (filter p xs)
 IsOrdered-filter R p [] h = tt
 IsOrdered-filter {X} R p (x ∷ xs) h = keep (p x) (IsOrdered-filter R p xs h.1)
   where
@@ -89,25 +92,29 @@ IsOrdered-filter {X} R p (x ∷ xs) h = keep (p x) (IsOrdered-filter R p xs h.1)
     keep true o = (λ y i. h.0 y (In_of_filter p xs y i).0, o)
     keep false o = o
 
-pub IsOrdered-map : {X Y : Type 0} (R : X → X → Type 0) (S : Y → Y → Type 0) (f : X → Y) → ((a b : X) → R a b → S (f a) (f b)) → (xs : List X) → IsOrdered R xs → IsOrdered S (map f xs)
+pub IsOrdered-map : {X Y : Type 0} (R : X → X → Type 0) (S : Y → Y → Type 0) (f : X → Y)
+    → ((a b : X) → R a b → S (f a) (f b)) → (xs : List X) → IsOrdered R xs → IsOrdered S (map f xs)
 IsOrdered-map R S f k [] h = tt
 IsOrdered-map {X} {Y} R S f k (x ∷ xs) h =
     (λ y i. let r = In_of_map f xs y i in subst (S (f x)) r.2 (k x r.0 (h.0 r.0 r.1)), IsOrdered-map R S f k xs h.1)
 
-pub IsOrdered-append : {X : Type 0} (R : X → X → Type 0) (xs ys : List X) → IsOrdered R xs → IsOrdered R ys → ((x y : X) → In xs x → In ys y → R x y) → IsOrdered R (xs ++ ys)
+pub IsOrdered-append : {X : Type 0} (R : X → X → Type 0) (xs ys : List X) → IsOrdered R xs → IsOrdered R ys
+    → ((x y : X) → In xs x → In ys y → R x y) → IsOrdered R (xs ++ ys)
 IsOrdered-append R [] ys h k c = k
 IsOrdered-append {X} R (x ∷ xs) ys h k c = (
   λ y i. elim (In-append_cases xs ys y i) [ inl a ↦ h.0 y a | inr b ↦ c x y (inl refl) b ],
   IsOrdered-append R xs ys h.1 k (λ a b i j. c a b (inr i) j),
 )
 
-pub IsRising-from_ordered : {X : Type 0} (cmp : X → X → Ordering) (xs : List X) → IsOrdered (λ a b. cmp a b ≡ Less) xs → IsRising cmp xs
+pub IsRising-from_ordered : {X : Type 0} (cmp : X → X → Ordering) (xs : List X) → IsOrdered (λ a b. cmp a b ≡ Less) xs
+    → IsRising cmp xs
 IsRising-from_ordered cmp [] h = tt
 IsRising-from_ordered cmp (x ∷ []) h = tt
 IsRising-from_ordered cmp (x ∷ (y ∷ ys)) h = (h.0 y (inl refl), IsRising-from_ordered cmp (y ∷ ys) h.1)
 
 -- a test of each element, at one of them
-pub list_all_at : {X : Type 0} (p : X → Bool) (xs : List X) (k : ℕ) (x : X) → list_all p xs ≡ true → slice_get xs k ≡ Some x → p x ≡ true
+pub list_all_at : {X : Type 0} (p : X → Bool) (xs : List X) (k : ℕ) (x : X) → list_all p xs ≡ true
+    → slice_get xs k ≡ Some x → p x ≡ true
 list_all_at p [] k x h e = absurd (cc)
 list_all_at p (y ∷ ys) zero x h e = let s : y ≡ x = cc in ap p (sym s) ∙ (and_parts (p y) (list_all p ys) h).0
 list_all_at p (y ∷ ys) (suc k) x h e = list_all_at p ys k x (and_parts (p y) (list_all p ys) h).1 e
@@ -117,7 +124,8 @@ list_all_in p [] x h i = absurd i
 list_all_in p (y ∷ ys) x h (inl e) = ap p (sym e) ∙ (and_parts (p y) (list_all p ys) h).0
 list_all_in p (y ∷ ys) x h (inr i) = list_all_in p ys x (and_parts (p y) (list_all p ys) h).1 i
 
-pub list_all_from_in : {X : Type 0} (p : X → Bool) (xs : List X) → ((x : X) → In xs x → p x ≡ true) → list_all p xs ≡ true
+pub list_all_from_in : {X : Type 0} (p : X → Bool) (xs : List X) → ((x : X) → In xs x → p x ≡ true)
+    → list_all p xs ≡ true
 list_all_from_in p [] h = refl
 list_all_from_in p (y ∷ ys) h =
     let a : p y ≡ true = h y (inl refl) in

@@ -1,5 +1,6 @@
 -- The well-formed patterns of no node and of one node, over operations with one result and no attributes.
-use Rattle.std.proofs.Common.{◌≡◌, ℕ, zero, suc, ◌^◌, ◌<◌, List, [], ◌∷◌, ◌++◌, length, map, Some, None, inl, inr, refl, sym, ap, subst, ◌∙◌, arith, slice_get, Contains, nat_lt}
+use Rattle.std.proofs.Common.{◌≡◌, ℕ, zero, suc, ◌^◌, ◌<◌, List, [], ◌∷◌, ◌++◌, length, map, Some, None, inl, inr, refl}
+use Rattle.std.proofs.Common.{sym, ap, subst, ◌∙◌, arith, slice_get, Contains, nat_lt}
 use Rattle.std.specs.Prelude.{fold, option_and_then}
 use Rattle.std.proofs.lemmas.Bool.{le-ltb, cond-false}
 use Rattle.bv_terms.specs.declared.value.Sort.{Sort}
@@ -10,7 +11,7 @@ use Rattle.pattern_core.specs.declared.pattern.Src.{Src}
 use Rattle.pattern_core.specs.declared.pattern.Src.TheVariants.{Input, Out}
 use Rattle.pattern_core.specs.declared.pattern.Node.{Node}
 use Rattle.pattern_core.specs.declared.pattern.Pattern.{Pattern}
-use Rattle.pattern_core.specs.Pattern.{source_sort, operation_sort, Pairwise, IsFitting, IsNamed, IsWellFormed, args_of}
+use Rattle.pattern_core.specs.Pattern.{source_sort, operation_sort, Pairwise, IsFitting, IsUsed, IsWellFormed, args_of}
 use Rattle.pattern_core.specs.Walk.{walk, IsCanonical}
 use Rattle.plain_search.specs.Enumeration.{IsPlain}
 use Rattle.plain_search.specs.Candidates.{input_pattern, operation_pattern}
@@ -34,45 +35,54 @@ IsCanonical-operation op ks = ap (λ l. l ++ 0 ∷ []) (walk_over_inputs (operat
 
 -- ---- no node
 
-pub IsWellFormed-input : (f : File) (g : Goal) (t : Term) (s : Sort) (k : ℕ) → g.results ≡ t ∷ [] → sort_of t ≡ Some s → slice_get g.args k ≡ Some s → IsWellFormed f g (input_pattern k)
+pub IsWellFormed-input : (f : File) (g : Goal) (t : Term) (s : Sort) (k : ℕ) → g.results ≡ t ∷ [] → sort_of t ≡ Some s
+    → slice_get g.args k ≡ Some s → IsWellFormed f g (input_pattern k)
 IsWellFormed-input f g t s k one sorted there = record {
   size = omega arith;
   nodes = λ j n e. cc;
   results = (λ i. (there ∙ sym sorted) i ∷ []) ∙ ap (map sort_of) (sym one);
-  named = λ j l. absurd (omega arith);
+  used = λ j l. absurd (omega arith);
 }
 
 -- a list of one source, by its sort
 abbrev HasOneSource : File → Goal → List Node → ℕ → Sort → List Src → Type 0
 HasOneSource f g nodes k s results = (r : Src) × (results ≡ r ∷ []) × (source_sort f g nodes k r ≡ Some s)
 
-one_source : (f : File) (g : Goal) (nodes : List Node) (k : ℕ) (s : Sort) (results : List Src) → map (source_sort f g nodes k) results ≡ Some s ∷ [] → HasOneSource f g nodes k s results
+one_source : (f : File) (g : Goal) (nodes : List Node) (k : ℕ) (s : Sort) (results : List Src)
+    → map (source_sort f g nodes k) results ≡ Some s ∷ [] → HasOneSource f g nodes k s results
 one_source f g nodes k s [] h = cc
 one_source f g nodes k s (r ∷ []) h = (r, refl, cc)
 one_source f g nodes k s (r ∷ (q ∷ rs)) h = cc
 
-results_of : (f : File) (g : Goal) (t : Term) (s : Sort) (p : Pattern) → g.results ≡ t ∷ [] → sort_of t ≡ Some s → IsWellFormed f g p → HasOneSource f g p.nodes (length p.nodes) s p.results
-results_of f g t s p one sorted wf = one_source f g p.nodes (length p.nodes) s p.results (wf.results ∙ ap (map sort_of) one ∙ (λ i. sorted i ∷ []))
+results_of : (f : File) (g : Goal) (t : Term) (s : Sort) (p : Pattern) → g.results ≡ t ∷ [] → sort_of t ≡ Some s
+    → IsWellFormed f g p → HasOneSource f g p.nodes (length p.nodes) s p.results
+results_of f g t s p one sorted wf =
+    one_source f g p.nodes (length p.nodes) s p.results (wf.results ∙ ap (map sort_of) one ∙ (λ i. sorted i ∷ []))
 
-none_earlier : (f : File) (g : Goal) (nodes : List Node) (node result : ℕ) → source_sort f g nodes 0 (Out node result) ≡ None
+none_earlier : (f : File) (g : Goal) (nodes : List Node) (node result : ℕ)
+    → source_sort f g nodes 0 (Out node result) ≡ None
 none_earlier f g nodes node result = cond-false (nat_lt node 0) _ None (le-ltb node 0 (omega arith))
 
 -- an input in a place of that sort
 abbrev pub IsInputOf : Goal → Sort → Pattern → Type 0
 IsInputOf g s p = (k : ℕ) × (slice_get g.args k ≡ Some s) × (input_pattern k ≡ p)
 
-input_of_source : (f : File) (g : Goal) (s : Sort) (p : Pattern) (r : Src) → p.nodes ≡ [] → p.results ≡ r ∷ [] → source_sort f g [] 0 r ≡ Some s → IsInputOf g s p
+input_of_source : (f : File) (g : Goal) (s : Sort) (p : Pattern) (r : Src) → p.nodes ≡ [] → p.results ≡ r ∷ []
+    → source_sort f g [] 0 r ≡ Some s → IsInputOf g s p
 input_of_source f g s p (Input k) none is h = (k, h, λ i. record { nodes = sym none i; results = sym is i })
 input_of_source f g s p (Out node result) none is h = let no = none_earlier f g [] node result in cc
 
-pub IsInputOf-from_well_formed : (f : File) (g : Goal) (t : Term) (s : Sort) (p : Pattern) → g.results ≡ t ∷ [] → sort_of t ≡ Some s → IsWellFormed f g p → p.nodes ≡ [] → IsInputOf g s p
+pub IsInputOf-from_well_formed : (f : File) (g : Goal) (t : Term) (s : Sort) (p : Pattern) → g.results ≡ t ∷ []
+    → sort_of t ≡ Some s → IsWellFormed f g p → p.nodes ≡ [] → IsInputOf g s p
 IsInputOf-from_well_formed f g t s p one sorted wf none =
     let r = results_of f g t s p one sorted wf in
-    input_of_source f g s p r.0 none r.1 (subst (λ (ns : List Node). source_sort f g ns (length ns) r.0 ≡ Some s) none r.2)
+    input_of_source f g s p r.0 none r.1
+    (subst (λ (ns : List Node). source_sort f g ns (length ns) r.0 ≡ Some s) none r.2)
 
 -- ---- one node
 
-fits_over_inputs : (f : File) (g : Goal) (nodes : List Node) (ks : List ℕ) → map (source_sort f g nodes 0) (map (λ k. Input k) ks) ≡ map (slice_get g.args) ks
+fits_over_inputs : (f : File) (g : Goal) (nodes : List Node) (ks : List ℕ)
+    → map (source_sort f g nodes 0) (map (λ k. Input k) ks) ≡ map (slice_get g.args) ks
 fits_over_inputs f g nodes [] = refl
 fits_over_inputs f g nodes (k ∷ ks) = λ i. slice_get g.args k ∷ fits_over_inputs f g nodes ks i
 
@@ -89,17 +99,20 @@ pub record IsUsable (f : File) (g : Goal) (s : Sort) (op : ℕ) (o : Operation) 
   pub results : o.results ≡ result ∷ []
   pub sorted : sort_of result ≡ Some s
 
-operation_result : (f : File) (g : Goal) (s : Sort) (op : ℕ) (o : Operation) (n : Node) → IsUsable f g s op o → n.op ≡ op → source_sort f g (n ∷ []) 1 (Out 0 0) ≡ Some s
+operation_result : (f : File) (g : Goal) (s : Sort) (op : ℕ) (o : Operation) (n : Node) → IsUsable f g s op o
+    → n.op ≡ op → source_sort f g (n ∷ []) 1 (Out 0 0) ≡ Some s
 operation_result f g s op o n u e =
     let there : slice_get f.ops n.op ≡ Some o = ap (slice_get f.ops) e ∙ u.in_file in
     ap (λ x. operation_sort x 0) there ∙ ap (λ rs. option_and_then sort_of (slice_get rs 0)) u.results ∙ u.sorted
 
-pub IsWellFormed-operation : (f : File) (g : Goal) (t : Term) (s : Sort) (op : ℕ) (o : Operation) (ks : List ℕ) → g.results ≡ t ∷ [] → sort_of t ≡ Some s → IsUsable f g s op o → Fit g.args o.args ks → IsWellFormed f g (operation_pattern op ks)
+pub IsWellFormed-operation : (f : File) (g : Goal) (t : Term) (s : Sort) (op : ℕ) (o : Operation) (ks : List ℕ)
+    → g.results ≡ t ∷ [] → sort_of t ≡ Some s → IsUsable f g s op o → Fit g.args o.args ks
+    → IsWellFormed f g (operation_pattern op ks)
 IsWellFormed-operation f g t s op o ks one sorted u fit = record {
   size = omega arith;
   nodes = λ j n e. node j n e;
   results = (λ i. (operation_result f g s op o n0 u refl ∙ sym sorted) i ∷ []) ∙ ap (map sort_of) (sym one);
-  named = λ j l. named j l;
+  used = λ j l. used j l;
 }
   where
     n0 : Node
@@ -118,14 +131,15 @@ IsWellFormed-operation f g t s op o ks one sorted u fit = record {
         let r = first_of_one n0 n j e in
         subst (λ i. IsFitting f g (n0 ∷ []) i n) (sym r.0) (subst (IsFitting f g (n0 ∷ []) 0) r.1 fitting)
 
-    named : (j : ℕ) → j < 1 → IsNamed (operation_pattern op ks) j
-    named j l = (0, inl (0, omega arith, ap (λ k. Out k 0) (omega arith)))
+    used : (j : ℕ) → j < 1 → IsUsed (operation_pattern op ks) j
+    used j l = (0, inl (0, omega arith, ap (λ k. Out k 0) (omega arith)))
 
 -- the sources of a first node's arguments are inputs
 abbrev AreInputs : List Src → List ℕ → Type 0
 AreInputs args ks = map (λ k. Input k) ks ≡ args
 
-inputs_of : (f : File) (g : Goal) (nodes : List Node) (args : List Src) (ss : List Sort) → map (source_sort f g nodes 0) args ≡ map (λ (s : Sort). Some s) ss → (ks : List ℕ) × AreInputs args ks
+inputs_of : (f : File) (g : Goal) (nodes : List Node) (args : List Src) (ss : List Sort)
+    → map (source_sort f g nodes 0) args ≡ map (λ (s : Sort). Some s) ss → (ks : List ℕ) × AreInputs args ks
 inputs_of f g nodes [] ss h = ([], refl)
 inputs_of f g nodes (Input k ∷ args) [] h = cc
 inputs_of f g nodes (Input k ∷ args) (s ∷ ss) h =
@@ -157,24 +171,34 @@ pub record IsOverInputs (f : File) (g : Goal) (s : Sort) (p : Pattern) : Type 0 
 no_output_among : (ks : List ℕ) (node result : ℕ) → In (map (λ k. Input k) ks) (Out node result) → ⊥
 no_output_among ks node result i = let r = In_of_map (λ k. Input k) ks (Out node result) i in let e = r.2 in cc
 
-no_output_in : (n : Node) (ks : List ℕ) (j node result : ℕ) → AreInputs n.args ks → In (args_of (slice_get (n ∷ []) j)) (Out node result) → ⊥
-no_output_in n ks zero node result e i = no_output_among ks node result (subst (λ xs. In xs (Out node result)) (sym e) i)
+no_output_in : (n : Node) (ks : List ℕ) (j node result : ℕ) → AreInputs n.args ks
+    → In (args_of (slice_get (n ∷ []) j)) (Out node result) → ⊥
+no_output_in n ks zero node result e i =
+    no_output_among ks node result (subst (λ xs. In xs (Out node result)) (sym e) i)
 no_output_in n ks (suc j) node result e i = absurd i
 
--- the source that names the only node is one of its results
-named_by_result : (n : Node) (ks : List ℕ) (r : Src) (p : Pattern) → AreInputs n.args ks → p.nodes ≡ n ∷ [] → p.results ≡ r ∷ [] → IsNamed p 0 → (result : ℕ) × (r ≡ Out 0 result)
-named_by_result n ks r p e nodes results h =
+-- the source that uses the only node is one of its results
+used_by_result : (n : Node) (ks : List ℕ) (r : Src) (p : Pattern) → AreInputs n.args ks → p.nodes ≡ n ∷ []
+    → p.results ≡ r ∷ [] → IsUsed p 0 → (result : ℕ) × (r ≡ Out 0 result)
+used_by_result n ks r p e nodes results h =
     elim h.1 [
-      | inl a ↦ (let i = subst (λ xs. In xs (Out 0 h.0)) results (In-from_Contains p.results (Out 0 h.0) a) in (h.0, elim i [ inl q ↦ q | inr q ↦ absurd q ]))
-      | inr b ↦ absurd (no_output_in n ks b.0 0 h.0 e (subst (λ ns. In (args_of (slice_get ns b.0)) (Out 0 h.0)) nodes (In-from_Contains (args_of (slice_get p.nodes b.0)) (Out 0 h.0) b.1)))
+      | inl a ↦ (let i = subst (λ xs. In xs (Out 0 h.0)) results (In-from_Contains p.results (Out 0 h.0) a) in
+          (h.0, elim i [ inl q ↦ q | inr q ↦ absurd q ]))
+      | inr b ↦ absurd (no_output_in n ks b.0 0 h.0 e
+          (subst (λ ns. In (args_of (slice_get ns b.0)) (Out 0 h.0)) nodes
+          (In-from_Contains (args_of (slice_get p.nodes b.0)) (Out 0 h.0) b.1)))
     ]
 
 -- the only result is result 0
-result_zero : (us : List Term) (u : Term) (s : Sort) (result : ℕ) → us ≡ u ∷ [] → option_and_then sort_of (slice_get us result) ≡ Some s → (result ≡ 0) × (sort_of u ≡ Some s)
+result_zero : (us : List Term) (u : Term) (s : Sort) (result : ℕ) → us ≡ u ∷ []
+    → option_and_then sort_of (slice_get us result) ≡ Some s → (result ≡ 0) × (sort_of u ≡ Some s)
 result_zero us u s zero e h = (refl, ap (λ xs. option_and_then sort_of (slice_get xs 0)) (sym e) ∙ h)
-result_zero us u s (suc k) e h = let past : option_and_then sort_of (slice_get (u ∷ []) (suc k)) ≡ Some s = ap (λ xs. option_and_then sort_of (slice_get xs (suc k))) (sym e) ∙ h in cc
+result_zero us u s (suc k) e h = let past : option_and_then sort_of (slice_get (u ∷ []) (suc k)) ≡ Some s =
+    ap (λ xs. option_and_then sort_of (slice_get xs (suc k))) (sym e) ∙ h in cc
 
-pub IsOverInputs-from_well_formed : (f : File) (g : Goal) (t : Term) (s : Sort) (p : Pattern) (n : Node) → ((o : Operation) → Contains f.ops o → IsPlain o) → g.results ≡ t ∷ [] → sort_of t ≡ Some s → IsWellFormed f g p → p.nodes ≡ n ∷ [] → IsOverInputs f g s p
+pub IsOverInputs-from_well_formed : (f : File) (g : Goal) (t : Term) (s : Sort) (p : Pattern) (n : Node)
+    → ((o : Operation) → Contains f.ops o → IsPlain o) → g.results ≡ t ∷ [] → sort_of t ≡ Some s → IsWellFormed f g p
+    → p.nodes ≡ n ∷ [] → IsOverInputs f g s p
 IsOverInputs-from_well_formed f g t s p n plain one sorted wf nodes =
     let fitting = wf.nodes 0 n (ap (λ ns. slice_get ns 0) nodes) in
     let o = fitting.operation in
@@ -182,17 +206,29 @@ IsOverInputs-from_well_formed f g t s p n plain one sorted wf nodes =
     let only = one_of_length o.results known.results in
     let inputs = inputs_of f g p.nodes n.args o.args fitting.args in
     let ks = inputs.0 in
-    let fit : Fit g.args o.args ks = sym (fits_over_inputs f g p.nodes ks) ∙ ap (map (source_sort f g p.nodes 0)) inputs.1 ∙ fitting.args in
+    let fit : Fit g.args o.args ks =
+    sym (fits_over_inputs f g p.nodes ks) ∙ ap (map (source_sort f g p.nodes 0)) inputs.1 ∙ fitting.args in
     let bare : n.attrs ≡ [] = no_attributes _ o.attrs n.attrs known.attrs fitting.attrs in
     let r = results_of f g t s p one sorted wf in
-    let out = named_by_result n ks r.0 p inputs.1 nodes r.1 (wf.named 0 (subst (λ ns. 0 < length ns) (sym nodes) (omega arith))) in
-    let sort_is : source_sort f g (n ∷ []) 1 (Out 0 out.0) ≡ Some s = (λ i. source_sort f g (sym nodes i) (length (sym nodes i)) (sym out.1 i)) ∙ r.2 in
-    let at : option_and_then sort_of (slice_get o.results out.0) ≡ Some s = ap (λ x. operation_sort x out.0) (sym fitting.in_file) ∙ sort_is in
+    let out =
+    used_by_result n ks r.0 p inputs.1 nodes r.1
+    (wf.used 0 (subst (λ ns. 0 < length ns) (sym nodes) (omega arith))) in
+    let sort_is : source_sort f g (n ∷ []) 1 (Out 0 out.0) ≡ Some s =
+    (λ i. source_sort f g (sym nodes i) (length (sym nodes i)) (sym out.1 i)) ∙ r.2 in
+    let at : option_and_then sort_of (slice_get o.results out.0) ≡ Some s =
+    ap (λ x. operation_sort x out.0) (sym fitting.in_file) ∙ sort_is in
     let zeroth = result_zero o.results only.0 s out.0 only.1 at in
     record {
       op = n.op;
       operation = o;
-      usable = record { in_file = fitting.in_file; attrs = known.attrs; result = only.0; results = only.1; sorted = zeroth.1 };
+      usable =
+          record {
+            in_file = fitting.in_file;
+            attrs = known.attrs;
+            result = only.0;
+            results = only.1;
+            sorted = zeroth.1;
+          };
       places = ks;
       fit = fit;
       is = λ i. record {

@@ -1,5 +1,6 @@
 -- A pattern agrees with the goal in all cases exactly where it is a rule.
-use Rattle.std.proofs.Common.{◌≡◌, ℕ, zero, suc, ◌+◌, ◌^◌, ◌<◌, Bool, true, false, List, [], ◌∷◌, ◌++◌, map, Some, ◌↔◌, inl, inr, refl, sym, ap, subst, ◌∙◌, arith, slice_get, eqb, sum_by}
+use Rattle.std.proofs.Common.{◌≡◌, ℕ, zero, suc, ◌+◌, ◌^◌, ◌<◌, Bool, true, false, List, [], ◌∷◌, ◌++◌, map, Some, ◌↔◌}
+use Rattle.std.proofs.Common.{inl, inr, refl, sym, ap, subst, ◌∙◌, arith, slice_get, eqb, sum_by}
 use Rattle.std.specs.Prelude.{unwrap_or}
 use Rattle.std.specs.List.{list_all, range_with_len}
 use Rattle.std.proofs.lemmas.Bool.{and_parts, and_from, eqb-true, eq-eqb}
@@ -11,14 +12,14 @@ use Rattle.bv_terms.specs.declared.value.Value.TheVariants as val
 use Rattle.bv_terms.specs.Term.{Term, value}
 use Rattle.bv_terms.specs.Sorts.{HaveSorts}
 use Rattle.isel_spec.specs.File.{File, Operation, Goal}
-use Rattle.isel_spec.specs.Form.{bits_of}
+use Rattle.bv_terms.specs.Sorts.{width_of}
 use Rattle.pattern_core.specs.declared.pattern.Src.TheVariants.{Input}
 use Rattle.pattern_core.specs.declared.pattern.Pattern.{Pattern}
-use Rattle.pattern_core.specs.Pattern.{source_value, attr_values, op_results, pattern_results, IsRule}
+use Rattle.pattern_core.specs.Pattern.{source_value, attr_values, op_results, pattern_results, HasNoMemory, IsRule}
 use Rattle.plain_search.specs.declared.cases.Case.{Case}
 use Rattle.plain_search.specs.Cases.{same_value, input_at, inputs_numbered, case_numbered, cases_of}
 use Rattle.plain_search.specs.Candidates.{input_pattern, operation_pattern}
-use Rattle.plain_search.proofs.ListLemmas.{In, In-map, In_of_map, list_all_in, list_all_from_in}
+use Rattle.plain_search.proofs.ListLemmas.{In, Contains-from_In, In-map, In_of_map, list_all_in, list_all_from_in}
 use Rattle.plain_search.proofs.InputLemmas.{HaveSorts-numbered, IsNumbered-from_sorts}
 use Rattle.plain_search.proofs.PatternLemmas.{IsUsable}
 
@@ -52,18 +53,23 @@ in_range a (suc n) (suc k) h =
     let later : (a + 1) + k ≡ a + suc k = omega arith in
     inr (subst (In (range_with_len (a + 1) n)) later (in_range (a + 1) n k (omega arith)))
 
-pub passes_everywhere : (p : Case → Bool) (ss : List Sort) (t : Term) → list_all p (cases_of ss t) ≡ true → (vs : List Value) → HaveSorts ss vs → p (case_at t vs) ≡ true
+pub passes_everywhere : (p : Case → Bool) (ss : List Sort) (t : Term) → list_all p (cases_of ss t) ≡ true
+    → (vs : List Value) → HaveSorts ss vs → p (case_at t vs) ≡ true
 passes_everywhere p ss t h vs sorts =
     let n = IsNumbered-from_sorts ss vs sorts in
-    let count : ℕ = 2 ^ sum_by bits_of ss in
-    let there : In (range_with_len 0 count) n.0 = subst (In (range_with_len 0 count)) (omega arith) (in_range 0 count n.0 n.1) in
-    let passes : p (case_numbered ss t n.0) ≡ true = list_all_in p (cases_of ss t) (case_numbered ss t n.0) h (In-map (case_numbered ss t) (range_with_len 0 count) n.0 there) in
+    let count : ℕ = 2 ^ sum_by width_of ss in
+    let there : In (range_with_len 0 count) n.0 =
+    subst (In (range_with_len 0 count)) (omega arith) (in_range 0 count n.0 n.1) in
+    let passes : p (case_numbered ss t n.0) ≡ true =
+    list_all_in p (cases_of ss t) (case_numbered ss t n.0) h
+    (In-map (case_numbered ss t) (range_with_len 0 count) n.0 there) in
     subst (λ us. p (case_at t us) ≡ true) n.2 passes
 
-pub passes_all_cases : (p : Case → Bool) (ss : List Sort) (t : Term) → (In ss sort.Mem → ⊥) → ((vs : List Value) → HaveSorts ss vs → p (case_at t vs) ≡ true) → list_all p (cases_of ss t) ≡ true
+pub passes_all_cases : (p : Case → Bool) (ss : List Sort) (t : Term) → (In ss sort.Mem → ⊥)
+    → ((vs : List Value) → HaveSorts ss vs → p (case_at t vs) ≡ true) → list_all p (cases_of ss t) ≡ true
 passes_all_cases p ss t plain h =
     list_all_from_in p (cases_of ss t) (λ c i.
-    let r = In_of_map (case_numbered ss t) (range_with_len 0 (2 ^ sum_by bits_of ss)) c i in
+    let r = In_of_map (case_numbered ss t) (range_with_len 0 (2 ^ sum_by width_of ss)) c i in
     subst (λ x. p x ≡ true) r.2 (h (inputs_numbered ss r.0) (HaveSorts-numbered ss r.0 plain)))
 
 -- ---- rules
@@ -72,28 +78,42 @@ passes_all_cases p ss t plain h =
 abbrev pub GivesValue : File → Pattern → (List Value → Value) → Type 0
 GivesValue f p v = (vs : List Value) → pattern_results f p vs ≡ v vs ∷ []
 
-pub IsRule-from_values : (f : File) (g : Goal) (t : Term) (p : Pattern) (v : List Value → Value) → g.results ≡ t ∷ [] → GivesValue f p v → ((vs : List Value) → HaveSorts g.args vs → v vs ≡ value vs t) → IsRule f g p
-IsRule-from_values f g t p v one gives h =
-    λ vs sorts. gives vs ∙ (λ i. h vs sorts i ∷ []) ∙ ap (map (value vs)) (sym one)
+pub IsRule-from_values : (f : File) (g : Goal) (t : Term) (p : Pattern) (v : List Value → Value) → HasNoMemory g
+    → g.results ≡ t ∷ [] → GivesValue f p v → ((vs : List Value) → HaveSorts g.args vs → v vs ≡ value vs t)
+    → IsRule f g p
+IsRule-from_values f g t p v plain one gives h = record {
+  no_memory = plain;
+  same = λ vs sorts. gives vs ∙ (λ i. h vs sorts i ∷ []) ∙ ap (map (value vs)) (sym one);
+}
 
 same_head : {X : Type 0} (x y : X) → x ∷ [] ≡ y ∷ [] → x ≡ y
 same_head x y e = cc
 
-pub values_from_rule : (f : File) (g : Goal) (t : Term) (p : Pattern) (v : List Value → Value) → g.results ≡ t ∷ [] → GivesValue f p v → IsRule f g p → (vs : List Value) → HaveSorts g.args vs → v vs ≡ value vs t
+pub values_from_rule : (f : File) (g : Goal) (t : Term) (p : Pattern) (v : List Value → Value) → g.results ≡ t ∷ []
+    → GivesValue f p v → IsRule f g p → (vs : List Value) → HaveSorts g.args vs → v vs ≡ value vs t
 values_from_rule f g t p v one gives rule vs sorts =
-    same_head (v vs) (value vs t) (sym (gives vs) ∙ rule vs sorts ∙ ap (map (value vs)) one)
+    same_head (v vs) (value vs t) (sym (gives vs) ∙ rule.same vs sorts ∙ ap (map (value vs)) one)
+
+pub no_memory_in : (g : Goal) → HasNoMemory g → In g.args sort.Mem → ⊥
+no_memory_in g plain i = plain.args (Contains-from_In g.args sort.Mem i)
 
 -- a test of one value in each case decides whether the pattern is a rule
-pub decides_rule : (f : File) (g : Goal) (t : Term) (p : Pattern) (v : List Value → Value) → (In g.args sort.Mem → ⊥) → g.results ≡ t ∷ [] → GivesValue f p v → (list_all (λ (c : Case). same_value (v c.inputs.values) c.result) (cases_of g.args t) ≡ true) ↔ IsRule f g p
+pub decides_rule : (f : File) (g : Goal) (t : Term) (p : Pattern) (v : List Value → Value) → HasNoMemory g
+    → g.results ≡ t ∷ [] → GivesValue f p v
+    → (list_all (λ (c : Case). same_value (v c.inputs.values) c.result) (cases_of g.args t) ≡ true) ↔ IsRule f g p
 decides_rule f g t p v plain one gives = (
-  λ h. IsRule-from_values f g t p v one gives (λ vs sorts. same_value-true (v vs) (value vs t) (passes_everywhere (λ (c : Case). same_value (v c.inputs.values) c.result) g.args t h vs sorts)),
-  λ rule. passes_all_cases (λ (c : Case). same_value (v c.inputs.values) c.result) g.args t plain (λ vs sorts. same_value-refl (v vs) (value vs t) (values_from_rule f g t p v one gives rule vs sorts)),
+  λ h. IsRule-from_values f g t p v plain one gives
+      (λ vs sorts. same_value-true (v vs) (value vs t)
+      (passes_everywhere (λ (c : Case). same_value (v c.inputs.values) c.result) g.args t h vs sorts)),
+  λ rule. passes_all_cases (λ (c : Case). same_value (v c.inputs.values) c.result) g.args t (no_memory_in g plain)
+      (λ vs sorts. same_value-refl (v vs) (value vs t) (values_from_rule f g t p v one gives rule vs sorts)),
 )
 
 pub GivesValue-input : (f : File) (k : ℕ) → GivesValue f (input_pattern k) (λ vs. input_at vs k)
 GivesValue-input f k vs = refl
 
-values_of_inputs : (vs : List Value) (ks : List ℕ) → map (source_value vs []) (map (λ k. Input k) ks) ≡ map (input_at vs) ks
+values_of_inputs : (vs : List Value) (ks : List ℕ)
+    → map (source_value vs []) (map (λ k. Input k) ks) ≡ map (input_at vs) ks
 values_of_inputs vs [] = refl
 values_of_inputs vs (k ∷ ks) = λ i. input_at vs k ∷ values_of_inputs vs ks i
 
@@ -101,10 +121,14 @@ no_attr_values : (widths : List ℕ) → widths ≡ [] → attr_values widths []
 no_attr_values [] e = refl
 no_attr_values (w ∷ ws) e = refl
 
-pub GivesValue-operation : (f : File) (g : Goal) (s : Sort) (op : ℕ) (o : Operation) (u : IsUsable f g s op o) (ks : List ℕ) → GivesValue f (operation_pattern op ks) (λ vs. value (map (input_at vs) ks) u.result)
+pub GivesValue-operation : (f : File) (g : Goal) (s : Sort) (op : ℕ) (o : Operation) (u : IsUsable f g s op o)
+    (ks : List ℕ) → GivesValue f (operation_pattern op ks) (λ vs. value (map (input_at vs) ks) u.result)
 GivesValue-operation f g s op o u ks vs =
     let args : List Value = map (source_value vs []) (map (λ k. Input k) ks) in
-    let there : op_results (slice_get f.ops op) [] args ≡ op_results (Some o) [] args = ap (λ x. op_results x [] args) u.in_file in
-    let given : args ++ attr_values o.attrs [] ≡ map (input_at vs) ks = ap (λ as'. args ++ as') (no_attr_values o.attrs u.attrs) ∙ append-nil args ∙ values_of_inputs vs ks in
-    let results : op_results (Some o) [] args ≡ value (map (input_at vs) ks) u.result ∷ [] = ap (λ xs. map (value xs) o.results) given ∙ ap (map (value (map (input_at vs) ks))) u.results in
+    let there : op_results (slice_get f.ops op) [] args ≡ op_results (Some o) [] args =
+    ap (λ x. op_results x [] args) u.in_file in
+    let given : args ++ attr_values o.attrs [] ≡ map (input_at vs) ks =
+    ap (λ as'. args ++ as') (no_attr_values o.attrs u.attrs) ∙ append-nil args ∙ values_of_inputs vs ks in
+    let results : op_results (Some o) [] args ≡ value (map (input_at vs) ks) u.result ∷ [] =
+    ap (λ xs. map (value xs) o.results) given ∙ ap (map (value (map (input_at vs) ks))) u.results in
     ap (λ rs. unwrap_or (slice_get rs 0) (val.Bool false) ∷ []) (there ∙ results)

@@ -1,5 +1,6 @@
 -- The tuples of inputs for some arguments: each fits, each that fits is there, and they stand in lexicographic order.
-use Rattle.std.proofs.Common.{◌≡◌, ℕ, zero, suc, ◌+◌, ◌<◌, ◌≤◌, Bool, true, false, cond, List, [], ◌∷◌, map, Some, inl, inr, refl, sym, ap, subst, ◌∙◌, arith, eqb, ltb, slice_get}
+use Rattle.std.proofs.Common.{◌≡◌, ℕ, zero, suc, ◌+◌, ◌<◌, ◌≤◌, Bool, true, false, cond, List, [], ◌∷◌, map, Some, inl}
+use Rattle.std.proofs.Common.{inr, refl, sym, ap, subst, ◌∙◌, arith, eqb, ltb, slice_get}
 use Rattle.std.specs.Ordering.{nat_cmp, ordering_then}
 use Rattle.std.specs.Cmp.Lexicographic.{slice_cmp}
 use Rattle.std.specs.declared.cmp.Ordering.TheVariants.{Less, Equal, Greater}
@@ -8,7 +9,8 @@ use Rattle.bv_terms.specs.declared.value.Sort.{Sort}
 use Rattle.bv_terms.specs.declared.value.Sort.TheVariants as sort
 use Rattle.bv_terms.specs.Sorts.{same_sort}
 use Rattle.plain_search.specs.Candidates.{places_from, places, longer, tuples}
-use Rattle.plain_search.proofs.ListLemmas.{In, In-cond, In-append_left, In-append_right, In-append_cases, In-map, In_of_map, IsOrdered, IsOrdered-map, IsOrdered-append}
+use Rattle.plain_search.proofs.ListLemmas.{In, In-cond, In-append_left, In-append_right, In-append_cases, In-map}
+use Rattle.plain_search.proofs.ListLemmas.{In_of_map, IsOrdered, IsOrdered-map, IsOrdered-append}
 
 -- the test of sorts decides whether they are equal
 pub same_sort-true : (s t : Sort) → same_sort s t ≡ true → s ≡ t
@@ -41,7 +43,8 @@ takes_in true z xs e = inl refl
 takes_in false z xs e = cc
 
 -- a place from k on has the sort, and stands that far from k
-pub slice_get-places_from : (k : ℕ) (s : Sort) (ts : List Sort) (n : ℕ) → In (places_from k s ts) n → (d : ℕ) × (n ≡ k + d) × (slice_get ts d ≡ Some s)
+pub slice_get-places_from : (k : ℕ) (s : Sort) (ts : List Sort) (n : ℕ) → In (places_from k s ts) n
+    → (d : ℕ) × (n ≡ k + d) × (slice_get ts d ≡ Some s)
 slice_get-places_from k s [] n h = absurd h
 slice_get-places_from k s (t ∷ ts) n h =
     elim (In-cond (same_sort s t) k (places_from (k + 1) s ts) n h) [
@@ -49,15 +52,18 @@ slice_get-places_from k s (t ∷ ts) n h =
       | inr b ↦ (let r = slice_get-places_from (k + 1) s ts n b in (suc r.0, omega (arith, r.1), r.2))
     ]
 
-pub In-places_from : (k : ℕ) (s : Sort) (ts : List Sort) (d : ℕ) → slice_get ts d ≡ Some s → In (places_from k s ts) (k + d)
+pub In-places_from : (k : ℕ) (s : Sort) (ts : List Sort) (d : ℕ) → slice_get ts d ≡ Some s
+    → In (places_from k s ts) (k + d)
 In-places_from k s [] d h = cc
 In-places_from k s (t ∷ ts) zero h =
     let same : same_sort s t ≡ true = same_sort-refl s t (cc) in
     let here : k ≡ k + 0 = omega arith in
-    subst (In (cond (same_sort s t) (k ∷ places_from (k + 1) s ts) (places_from (k + 1) s ts))) here (takes_in (same_sort s t) k (places_from (k + 1) s ts) same)
+    subst (In (cond (same_sort s t) (k ∷ places_from (k + 1) s ts) (places_from (k + 1) s ts))) here
+    (takes_in (same_sort s t) k (places_from (k + 1) s ts) same)
 In-places_from k s (t ∷ ts) (suc d) h =
     let later : (k + 1) + d ≡ k + suc d = omega arith in
-    keeps_in (same_sort s t) k (places_from (k + 1) s ts) (k + suc d) (subst (In (places_from (k + 1) s ts)) later (In-places_from (k + 1) s ts d h))
+    keeps_in (same_sort s t) k (places_from (k + 1) s ts) (k + suc d)
+    (subst (In (places_from (k + 1) s ts)) later (In-places_from (k + 1) s ts d h))
 
 abbrev IsLess : ℕ → ℕ → Type 0
 IsLess a b = a < b
@@ -65,14 +71,16 @@ IsLess a b = a < b
 places_from_le : (k : ℕ) (s : Sort) (ts : List Sort) (n : ℕ) → In (places_from k s ts) n → k ≤ n
 places_from_le k s ts n h = let r = slice_get-places_from k s ts n h in omega (arith, r.1)
 
-ordered_cond : (b : Bool) (k : ℕ) (xs : List ℕ) → ((n : ℕ) → In xs n → k + 1 ≤ n) → IsOrdered IsLess xs → IsOrdered IsLess (cond b (k ∷ xs) xs)
+ordered_cond : (b : Bool) (k : ℕ) (xs : List ℕ) → ((n : ℕ) → In xs n → k + 1 ≤ n) → IsOrdered IsLess xs
+    → IsOrdered IsLess (cond b (k ∷ xs) xs)
 ordered_cond true k xs h o = (λ n i. omega (arith, h n i), o)
 ordered_cond false k xs h o = o
 
 pub IsOrdered-places_from : (k : ℕ) (s : Sort) (ts : List Sort) → IsOrdered (λ (a b : ℕ). a < b) (places_from k s ts)
 IsOrdered-places_from k s [] = tt
 IsOrdered-places_from k s (t ∷ ts) =
-    ordered_cond (same_sort s t) k (places_from (k + 1) s ts) (places_from_le (k + 1) s ts) (IsOrdered-places_from (k + 1) s ts)
+    ordered_cond (same_sort s t) k (places_from (k + 1) s ts) (places_from_le (k + 1) s ts)
+    (IsOrdered-places_from (k + 1) s ts)
 
 -- ---- tuples
 
@@ -80,12 +88,14 @@ IsOrdered-places_from k s (t ∷ ts) =
 abbrev pub Fit : List Sort → List Sort → List ℕ → Type 0
 Fit inputs args ks = map (slice_get inputs) ks ≡ map (λ (s : Sort). Some s) args
 
-in_longer : (ts : List (List ℕ)) (firsts : List ℕ) (k : ℕ) (t : List ℕ) → In firsts k → In ts t → In (longer ts firsts) (k ∷ t)
+in_longer : (ts : List (List ℕ)) (firsts : List ℕ) (k : ℕ) (t : List ℕ) → In firsts k → In ts t
+    → In (longer ts firsts) (k ∷ t)
 in_longer ts [] k t h i = absurd h
 in_longer ts (f ∷ fs) k t (inl e) i =
     In-append_left (map (λ x. f ∷ x) ts) (longer ts fs) (k ∷ t)
     (subst (λ n. In (map (λ x. f ∷ x) ts) (n ∷ t)) e (In-map (λ x. f ∷ x) ts t i))
-in_longer ts (f ∷ fs) k t (inr h) i = In-append_right (map (λ x. f ∷ x) ts) (longer ts fs) (k ∷ t) (in_longer ts fs k t h i)
+in_longer ts (f ∷ fs) k t (inr h) i =
+    In-append_right (map (λ x. f ∷ x) ts) (longer ts fs) (k ∷ t) (in_longer ts fs k t h i)
 
 -- what is longer by one: its first place and the rest
 abbrev IsLonger : List (List ℕ) → List ℕ → List ℕ → Type 0
@@ -118,7 +128,8 @@ In-tuples inputs (s ∷ ss) (k ∷ ks) h =
     let first : slice_get inputs k ≡ Some s = cc in
     let rest : map (slice_get inputs) ks ≡ map (λ (s : Sort). Some s) ss = cc in
     let here : 0 + k ≡ k = omega arith in
-    in_longer (tuples inputs ss) (places inputs s) k ks (subst (In (places inputs s)) here (In-places_from 0 s inputs k first)) (In-tuples inputs ss ks rest)
+    in_longer (tuples inputs ss) (places inputs s) k ks
+    (subst (In (places inputs s)) here (In-places_from 0 s inputs k first)) (In-tuples inputs ss ks rest)
 
 -- before in lexicographic order
 abbrev pub IsBefore : List ℕ → List ℕ → Type 0
@@ -128,7 +139,9 @@ pub nat_cmp-lt : (a b : ℕ) → a < b → nat_cmp a b ≡ Less
 nat_cmp-lt a b h = cond-true (ltb a b) Less (cond (eqb a b) Equal Greater) (lt-ltb a b h)
 
 pub nat_cmp_itself : (a : ℕ) → nat_cmp a a ≡ Equal
-nat_cmp_itself a = cond-false (ltb a a) Less (cond (eqb a a) Equal Greater) (le-ltb a a (omega arith)) ∙ cond-true (eqb a a) Equal Greater (eq-eqb a a refl)
+nat_cmp_itself a =
+    cond-false (ltb a a) Less (cond (eqb a a) Equal Greater) (le-ltb a a (omega arith))
+    ∙ cond-true (eqb a a) Equal Greater (eq-eqb a a refl)
 
 before_by_first : (a b : ℕ) (s t : List ℕ) → a < b → IsBefore (a ∷ s) (b ∷ t)
 before_by_first a b s t h = ap (λ o. ordering_then o (slice_cmp nat_cmp s t)) (nat_cmp-lt a b h)
@@ -136,18 +149,23 @@ before_by_first a b s t h = ap (λ o. ordering_then o (slice_cmp nat_cmp s t)) (
 before_by_rest : (a : ℕ) (s t : List ℕ) → IsBefore s t → IsBefore (a ∷ s) (a ∷ t)
 before_by_rest a s t h = ap (λ o. ordering_then o (slice_cmp nat_cmp s t)) (nat_cmp_itself a) ∙ h
 
-first_of_map : (f : ℕ) (ts : List (List ℕ)) (fs : List ℕ) → ((n : ℕ) → In fs n → f < n) → (x y : List ℕ) → In (map (λ t. f ∷ t) ts) x → In (longer ts fs) y → IsBefore x y
+first_of_map : (f : ℕ) (ts : List (List ℕ)) (fs : List ℕ) → ((n : ℕ) → In fs n → f < n) → (x y : List ℕ)
+    → In (map (λ t. f ∷ t) ts) x → In (longer ts fs) y → IsBefore x y
 first_of_map f ts fs h x y i j =
     let a = In_of_map (λ t. f ∷ t) ts x i in
     let b = of_longer ts fs y j in
     subst (λ u. IsBefore u y) a.2 (subst (λ u. IsBefore (f ∷ a.0) u) b.4 (before_by_first f b.0 a.0 b.1 (h b.0 b.2)))
 
-IsOrdered-longer : (ts : List (List ℕ)) (firsts : List ℕ) → IsOrdered IsBefore ts → IsOrdered (λ (a b : ℕ). a < b) firsts → IsOrdered IsBefore (longer ts firsts)
+IsOrdered-longer : (ts : List (List ℕ)) (firsts : List ℕ) → IsOrdered IsBefore ts
+    → IsOrdered (λ (a b : ℕ). a < b) firsts → IsOrdered IsBefore (longer ts firsts)
 IsOrdered-longer ts [] o p = tt
 IsOrdered-longer ts (f ∷ fs) o p =
-    IsOrdered-append IsBefore (map (λ t. f ∷ t) ts) (longer ts fs) (IsOrdered-map IsBefore IsBefore (λ t. f ∷ t) (before_by_rest f) ts o) (IsOrdered-longer ts fs o p.1)
+    IsOrdered-append IsBefore (map (λ t. f ∷ t) ts) (longer ts fs)
+    (IsOrdered-map IsBefore IsBefore (λ t. f ∷ t) (before_by_rest f) ts o) (IsOrdered-longer ts fs o p.1)
     (first_of_map f ts fs p.0)
 
 pub IsOrdered-tuples : (inputs args : List Sort) → IsOrdered IsBefore (tuples inputs args)
 IsOrdered-tuples inputs [] = (λ y i. absurd i, tt)
-IsOrdered-tuples inputs (s ∷ ss) = IsOrdered-longer (tuples inputs ss) (places inputs s) (IsOrdered-tuples inputs ss) (IsOrdered-places_from 0 s inputs)
+IsOrdered-tuples inputs (s ∷ ss) =
+    IsOrdered-longer (tuples inputs ss) (places inputs s) (IsOrdered-tuples inputs ss)
+    (IsOrdered-places_from 0 s inputs)

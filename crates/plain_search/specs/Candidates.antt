@@ -1,12 +1,14 @@
 -- The patterns that are tried, in their order, and those of them that give what is wanted.
-use Rattle.std.specs.Prelude.{◌≡◌, ℕ, All, ◌+◌, ◌≤◌, List, [], ◌∷◌, ◌++◌, length, map, filter, Some, false, if◌then◌else◌}
+use Rattle.std.specs.Prelude.{◌≡◌, ℕ, All, ◌+◌, ◌≤◌, List, [], ◌∷◌, ◌++◌, length, map, filter, Contains, Some, true}
+use Rattle.std.specs.Prelude.{false, if◌then◌else◌}
 use Rattle.std.specs.List.{flat_map}
 use Rattle.std.specs.Option.{option_map_or}
 use Rattle.bv_terms.specs.declared.value.Sort.{Sort}
+use Rattle.bv_terms.specs.declared.value.Sort.TheVariants as sort
 use Rattle.bv_terms.specs.Term.{Term}
 use Rattle.bv_terms.specs.Sorts.{same_sort, sort_of, HaveSorts}
 use Rattle.bv_terms.specs.Table.{term_in}
-use Rattle.isel_spec.specs.File.{Operation, Goal}
+use Rattle.isel_spec.specs.File.{Operation, Goal, stays_in}
 use Rattle.pattern_core.specs.declared.pattern.Src.TheVariants.{Input, Out}
 use Rattle.pattern_core.specs.declared.pattern.Pattern.{Pattern}
 use Rattle.plain_search.specs.declared.cases.Case.{Case}
@@ -41,7 +43,8 @@ input_pattern k = record { nodes = []; results = Input k ∷ [] }
 
 -- the pattern that gives an operation's result over inputs
 abbrev pub operation_pattern : ℕ → List ℕ → Pattern
-operation_pattern op ks = record { nodes = record { op = op; attrs = []; args = map (λ k. Input k) ks } ∷ []; results = Out 0 0 ∷ [] }
+operation_pattern op ks =
+    record { nodes = record { op = op; attrs = []; args = map (λ k. Input k) ks } ∷ []; results = Out 0 0 ∷ [] }
 
 -- the patterns without nodes that give what is wanted
 abbrev pub input_rules : Wanted → List Pattern
@@ -51,7 +54,8 @@ input_rules w = map input_pattern (filter (input_agrees w.cases.items) (places w
 abbrev pub operation_rules : Wanted → ℕ → Operation → List Pattern
 operation_rules w op o =
     if option_map_or (same_sort w.sort) (sort_of (result_in o.results)) false
-    then map (operation_pattern op) (filter (term_agrees w.cases.items (result_in o.results)) (tuples w.sorts.items o.args))
+    then map (operation_pattern op)
+    (filter (term_agrees w.cases.items (result_in o.results)) (tuples w.sorts.items o.args))
     else []
 
 -- the patterns of one node that give what is wanted, where these are the operations from that place on
@@ -64,8 +68,10 @@ pub record IsWanted (g : Goal) (w : Wanted) : Type 0 where
   pub sorts : w.sorts.items ≡ g.args
   pub sort : sort_of (result_in g.results) ≡ Some w.sort
   pub cases : w.cases.items ≡ cases_of g.args (result_in g.results)
+  pub stays : stays_in g.args (result_in g.results) ≡ true
 
--- few arguments, and cases whose inputs have the arguments' sorts
+-- few arguments, none of them a memory, and cases whose inputs have the arguments' sorts
 pub record IsTried (w : Wanted) : Type 0 where
   pub few : length w.sorts.items ≤ 4
+  pub plain : ¬ Contains w.sorts.items sort.Mem
   pub inputs : All (λ (c : Case). HaveSorts w.sorts.items c.inputs.values) w.cases.items

@@ -2,7 +2,7 @@
 use Rattle.std.specs.Prelude.{◌≡◌, ℕ, ◌≤◌, [], length, map, sum, Some, slice_get, Contains}
 use Rattle.bv_terms.specs.declared.value.Sort.TheVariants as sort
 use Rattle.isel_spec.specs.File.{File, Operation, Goal}
-use Rattle.isel_spec.specs.Form.{bits_of}
+use Rattle.bv_terms.specs.Sorts.{width_of}
 
 -- an operation without attributes and with one result
 pub record IsPlain (o : Operation) : Type 0 where
@@ -13,7 +13,7 @@ pub record IsPlain (o : Operation) : Type 0 where
 pub record HasFewInputs (g : Goal) : Type 0 where
   pub results : length g.results ≡ 1
   pub plain : ¬ Contains g.args sort.Mem
-  pub few : sum (map bits_of g.args) ≤ 12
+  pub few : sum (map width_of g.args) ≤ 12
 
 -- the file and the place of a goal that the enumeration takes
 pub record IsSearchable (f : File) (place : ℕ) : Type 0 where

@@ -1,3 +1,4 @@
 pub mod Enumeration
 pub mod Cases
 pub mod Candidates
+pub mod Results

@@ -1,23 +1,29 @@
-//! The enumeration: the library of a goal for a bound of at most one node, by trying each pattern on
-//! each input.
-//!
-//! The goal's result at all inputs is computed once. The patterns come in their order, and one is
-//! dropped at the first input at which its result is another one.
+//! The enumeration of all patterns of at most one node, in their order, so the list of those that are
+//! rules rises as it is made. The goal's result at all inputs is computed once, and so is each
+//! operation's at all its arguments, where these have few bits. A pattern is dropped at the first input
+//! at which its result is another one.
 
-ghost use Rattle.std.specs.Prelude.{◌≡◌, ℕ, List, ◌<◌, ◌≤◌, [], ◌∷◌, ◌++◌, length, map, Some, IfOk, OnOk, slice_get, Contains};
-ghost use Rattle.isel_spec.specs.File.{Goal, Operation};
+ghost use Rattle.std.specs.Prelude.{◌≡◌, ◌<◌, ◌≤◌, [], ◌∷◌, ◌++◌, length, map, filter, slice_get, Contains};
+ghost use Rattle.std.specs.Prelude.{Some, IfOk, OnOk, IsTrue};
+ghost use Rattle.bv_terms.specs.Table.{term_at};
+ghost use Rattle.isel_spec.specs.File.{Goal, Operation, stays_in};
 ghost use Rattle.isel_spec.specs.Spec.{file};
 ghost use Rattle.pattern_core.specs.Library.{IsLibrary};
 ghost use Rattle.plain_search.specs.Enumeration.{IsSearchable, IsPlain};
-ghost use Rattle.plain_search.specs.Candidates.{IsWanted, IsTried, input_pattern, operation_pattern, input_rules, operation_rules, rules_from};
+ghost use Rattle.plain_search.specs.Cases.{term_agrees};
+ghost use Rattle.plain_search.specs.Results.{IsEvaluator};
+ghost use Rattle.plain_search.specs.Candidates.{IsWanted, IsTried, tuples};
+ghost use Rattle.plain_search.specs.Candidates.{input_pattern, operation_pattern, input_rules, operation_rules};
+ghost use Rattle.plain_search.specs.Candidates.{rules_from};
 
-use bv_terms::{Sort, TermId, Value};
-use crate::cases::{Case, all_cases, does_input_agree, does_term_agree};
-use isel_spec::{GoalDef, Kind, OpDef, Spec};
+use crate::cases::{Case, all_cases, does_input_agree};
+use crate::results::{Evaluator, does_operation_agree, evaluator_for};
+use crate::tuples::{places_of, tuples_of};
+use bv_terms::{Sort, TermId, Terms, Value};
 use collections::Seq;
+use isel_spec::{Kind, Spec};
 use pattern_core::{Node, Pattern, Src};
 use std::alloc::{AllocError, Global};
-use crate::tuples::{is_same_sort, places_of, tuples_of};
 
 /// What patterns are tried against: the sorts of a goal's arguments, the sort of its result, and
 /// its result at all inputs.
@@ -26,24 +32,6 @@ struct Wanted {
     sorts: Vec<Sort>,
     sort: Sort,
     cases: Vec<Case>,
-}
-
-/// The goal in a place.
-fn goal_at(spec: &Spec, place: u32) -> &GoalDef
-    requires { place < length spec.now.goals }
-    ensures { (name : List ℕ) × (slice_get spec.now.goals place ≡ Some (name, result.now)) }
-{
-    let (_, definition) = spec.goals.get(place as usize).unwrap();
-    definition
-}
-
-/// The operation in a place.
-fn operation_at(spec: &Spec, place: usize) -> &OpDef
-    requires { place < length spec.now.ops }
-    ensures { (name : List ℕ) × (slice_get spec.now.ops place ≡ Some (name, result.now)) }
-{
-    let (_, definition) = spec.ops.get(place).unwrap();
-    definition
 }
 
 /// The first of some results: the only one, in what the enumeration takes.
@@ -72,10 +60,11 @@ fn wanted_by(
     requires there { goal < length spec.now.goals }
     requires searchable { IsSearchable (file spec.now) goal }
     requires room { length spec.now.terms.nodes ≤ length room.old }
-    ensures wanted { IfOk result (λ wanted. (g : Goal) → slice_get (file spec.now).goals goal ≡ Some g → IsWanted g wanted) }
+    ensures wanted { IfOk result (λ wanted.
+        (g : Goal) → slice_get (file spec.now).goals goal ≡ Some g → IsWanted g wanted) }
     ensures tried { IfOk result IsTried }
 {
-    let definition = goal_at(spec, goal);
+    let definition = spec.goal(goal);
     let result = first(&definition.results);
     let sorts = argument_sorts(alloc, definition.args.as_slice())?;
     let cases = all_cases(alloc, &spec.terms, &sorts, result, room)?;
@@ -146,6 +135,46 @@ fn input_rules(alloc: Global, wanted: &Wanted) -> Result<Vec<Pattern>, AllocErro
     Ok(rules)
 }
 
+/// Adds the patterns of an operation over these choices of inputs that give what is wanted, in order.
+fn add_agreeing(
+    alloc: Global,
+    terms: &Terms,
+    op: u16,
+    evaluator: &Evaluator,
+    args: &[Sort],
+    at: TermId,
+    wanted: &Wanted,
+    choices: &[Seq<u8>],
+    room: &mut [Value],
+    rules: &mut Vec<Pattern>,
+) -> Result<(), AllocError>
+    requires evaluator { IsEvaluator terms.now args.now at evaluator.now }
+    requires stays { IsTrue (stays_in args.now (term_at terms.now at)) }
+    requires tried { IsTried wanted.now }
+    requires choices { choices.now ≡ tuples wanted.now.sorts.items args.now }
+    requires room { length terms.now.nodes ≤ length room.old }
+    ensures { OnOk result (rules.new.items ≡ rules.old.items
+        ++ map (operation_pattern op)
+        (filter (term_agrees wanted.now.cases.items (term_at terms.now at)) choices.now)) }
+{
+    for choice in choices {
+        let places = choice.as_slice();
+        if does_operation_agree(
+            alloc,
+            terms,
+            evaluator,
+            args,
+            at,
+            &wanted.cases,
+            places,
+            room,
+        )? {
+            rules.push(operation_rule(alloc, op, places)?)?;
+        }
+    }
+    Ok(())
+}
+
 /// Adds the patterns of an operation that give what is wanted, in order.
 fn add_operation_rules(
     alloc: Global,
@@ -159,21 +188,24 @@ fn add_operation_rules(
     requires plain { (o : Operation) → Contains (file spec.now).ops o → IsPlain o }
     requires tried { IsTried wanted.now }
     requires room { length spec.now.terms.nodes ≤ length room.old }
-    ensures { OnOk result ((o : Operation) → slice_get (file spec.now).ops op ≡ Some o → rules.new.items ≡ rules.old.items ++ operation_rules wanted.now op o) }
+    ensures { OnOk result ((o : Operation) → slice_get (file spec.now).ops op ≡ Some o
+        → rules.new.items ≡ rules.old.items ++ operation_rules wanted.now op o) }
 {
-    let definition = operation_at(spec, op);
+    let definition = spec.op(op);
     let result = first(&definition.results);
-    if !is_same_sort(wanted.sort, spec.terms.sort(result)) {
+    if !wanted.sort.is_same(spec.terms.sort(result)) {
         return Ok(());
     }
-    let tuples = tuples_of(alloc, &wanted.sorts, definition.args.as_slice())?;
-    for tuple in &tuples {
-        let places = tuple.as_slice();
-        if does_term_agree(alloc, &spec.terms, result, &wanted.cases, places, room)? {
-            rules.push(operation_rule(alloc, op as u16, places)?)?;
-        }
+    let args = definition.args.as_slice();
+    let choices = tuples_of(alloc, &wanted.sorts, args)?;
+    if choices.is_empty() {
+        return Ok(());
     }
-    Ok(())
+    let terms = &spec.terms;
+    let evaluator = evaluator_for(alloc, terms, args, result, room)?;
+    add_agreeing(
+        alloc, terms, op as u16, &evaluator, args, result, wanted, &choices, room, rules,
+    )
 }
 
 /// The patterns of one node that give what is wanted, in order.
@@ -195,13 +227,14 @@ fn operation_rules(
     Ok(rules)
 }
 
-/// The library of a goal for a bound on size, by trying patterns and inputs one by one: the rules of
-/// the least size that has one, in order, or no pattern at all. An `Err` is want of memory.
+/// The library of a goal for a bound on size: the rules of the least size that has one, in order, or
+/// no pattern at all. An `Err` is out of memory.
 pub fn search(alloc: Global, spec: &Spec, goal: u32, bound: u8) -> Result<Vec<Pattern>, AllocError>
     requires there { goal < length spec.now.goals }
     requires searchable { IsSearchable (file spec.now) goal }
     requires bound { bound ≤ 1 }
-    ensures { IfOk result (λ found. (g : Goal) → slice_get (file spec.now).goals goal ≡ Some g → IsLibrary (file spec.now) g bound found.items) }
+    ensures { IfOk result (λ found.
+        (g : Goal) → slice_get (file spec.now).goals goal ≡ Some g → IsLibrary (file spec.now) g bound found.items) }
 {
     let mut room = vec![in alloc; Value::Bool(false); spec.terms.len()]?;
     let wanted = wanted_by(alloc, spec, goal, &mut room)?;

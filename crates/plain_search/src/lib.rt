@@ -1,12 +1,18 @@
-//! The library of a goal by enumeration: every pattern of at most one node, tried on every input.
+//! The library of a goal by plain search: every pattern of at most one node, tried on every input.
 //!
-//! - `cases`: the goal's result at all inputs, and whether a pattern's result is the same there.
+//! - `inputs`: the inputs of some sorts and their numbers.
+//! - `results`: the result of a definition at given inputs, and whether an operation's is the goal's.
+//! - `cases`: the goal's result at all inputs, and whether an input is the same there.
 //! - `tuples`: the tuples of inputs that an operation can take.
 //! - `enumeration`: `search`, the patterns in their order.
+//!
+//! Smallest patterns first: Buchwald, Fried, Hack, CGO 2018.
 #![tactic(auto)]
 
 mod cases;
 mod enumeration;
+mod inputs;
+mod results;
 mod tuples;
 
 pub use enumeration::search;

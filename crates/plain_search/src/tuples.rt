@@ -1,19 +1,12 @@
-//! The tuples of inputs that an operation can take.
+//! The tuples of inputs that an operation can take: all of its arguments' sorts, in lexicographic
+//! order.
 
 ghost use Rattle.std.specs.Prelude.{◌≡◌, ◌≤◌, ◌∷◌, ◌++◌, length, map, IfOk, OnOk};
-ghost use Rattle.bv_terms.specs.Sorts.{same_sort};
 ghost use Rattle.plain_search.specs.Candidates.{places, longer, tuples};
 
 use bv_terms::Sort;
 use collections::Seq;
 use std::alloc::{AllocError, Global};
-
-/// Whether two sorts are equal.
-pub fn is_same_sort(left: Sort, right: Sort) -> bool
-    ensures { result ≡ same_sort left right }
-{
-    left == right
-}
 
 /// The inputs of a sort, by their places in order.
 pub fn places_of(alloc: Global, sorts: &[Sort], wanted: Sort) -> Result<Vec<u8>, AllocError>
@@ -22,7 +15,7 @@ pub fn places_of(alloc: Global, sorts: &[Sort], wanted: Sort) -> Result<Vec<u8>,
 {
     let mut found = Vec::new(alloc);
     for (place, sort) in sorts.iter().enumerate() {
-        if is_same_sort(wanted, *sort) {
+        if wanted.is_same(*sort) {
             found.push(place as u8)?;
         }
     }

@@ -2,24 +2,35 @@ use Rattle.std.proofs.Common.{◌≡◌, ◌∙◌, map}
 use Rattle.bv_terms.specs.declared.op.TermId.{TermId}
 use Rattle.bv_terms.specs.Term.{value}
 use Rattle.bv_terms.specs.Table.{term_at}
-use Rattle.pattern_core.proofs.SoundLemmas.{CanEval-goal, goal_values, if_ok}
+use Rattle.isel_spec.proofs.SpecLemmas.{CanEval-goal, goal_values}
+use Rattle.std.proofs.lemmas.Result.{IfOk-weaker}
 use Rattle.pattern_core.proofs.meaning.eval_goal.Goals as goal
 
 pub values_of-requires-clause-there : goal.values_of-requires-clause-there
 values_of-requires-clause-there c =
-    let d = c.goal_at-definition.ensures in
-    let can = CanEval-goal c.args.spec.now c.args.goal d.0 c.goal_at-definition.result.now c.as_slice-results.result.now c.args.inputs.now c.from_vec.result d.1 c.as_slice-results.ensures (c.from_vec.ensures ∙ c.in_ok-from_slice.ensures.items) c.requires.inputs in
+    let d = c.goal-definition.ensures in
+    let can =
+    CanEval-goal c.args.spec.now c.args.goal d.0 c.goal-definition.result.now c.as_slice-results.result.now
+    c.args.inputs.now c.from_vec.result d.1 c.as_slice-results.ensures
+    (c.from_vec.ensures ∙ c.in_ok-from_slice.ensures.items) c.requires.inputs in
     can.there
 
 pub values_of-requires-clause-inputs : goal.values_of-requires-clause-inputs
 values_of-requires-clause-inputs c =
-    let d = c.goal_at-definition.ensures in
-    let can = CanEval-goal c.args.spec.now c.args.goal d.0 c.goal_at-definition.result.now c.as_slice-results.result.now c.args.inputs.now c.from_vec.result d.1 c.as_slice-results.ensures (c.from_vec.ensures ∙ c.in_ok-from_slice.ensures.items) c.requires.inputs in
+    let d = c.goal-definition.ensures in
+    let can =
+    CanEval-goal c.args.spec.now c.args.goal d.0 c.goal-definition.result.now c.as_slice-results.result.now
+    c.args.inputs.now c.from_vec.result d.1 c.as_slice-results.ensures
+    (c.from_vec.ensures ∙ c.in_ok-from_slice.ensures.items) c.requires.inputs in
     can.fit
 
 pub returns : goal.returns
 returns c =
-    let d = c.goal_at-definition.ensures in
-    if_ok (λ v. v.items ≡ map (λ (at : TermId). value c.from_vec.result (term_at c.args.spec.now.terms at)) c.as_slice-results.result.now) _
-    (λ v is g h. is ∙ goal_values c.args.spec.now c.args.goal d.0 c.goal_at-definition.result.now g c.as_slice-results.result.now c.args.inputs.now c.from_vec.result d.1 h c.as_slice-results.ensures (c.from_vec.ensures ∙ c.in_ok-from_slice.ensures.items))
-    c.values_of.result c.values_of.ensures
+    let d = c.goal-definition.ensures in
+    IfOk-weaker c.values_of.result
+    (λ v. v.items ≡ map (λ (at : TermId). value c.from_vec.result (term_at c.args.spec.now.terms at))
+    c.as_slice-results.result.now) _
+    (λ v is g h. is ∙ goal_values c.args.spec.now c.args.goal d.0 c.goal-definition.result.now g
+    c.as_slice-results.result.now c.args.inputs.now c.from_vec.result d.1 h c.as_slice-results.ensures
+    (c.from_vec.ensures ∙ c.in_ok-from_slice.ensures.items))
+    c.values_of.ensures

@@ -8,8 +8,12 @@ pub returns-then-not-is_fitting : goal.returns-then-not-is_fitting
 returns-then-not-is_fitting c = λ g h.
     let nodes = c.args.nodes.now in
     let n : Node = get_or nodes c.loop-place.place (record { op = 0; attrs = []; args = [] }) in
-    let at : slice_get nodes c.loop-place.place ≡ Some n = slice_get-get_or nodes c.loop-place.place (record { op = 0; attrs = []; args = [] }) c.loop-place-test.true in
-    no_answer (λ all. never c.is_fitting.result c.if-not-is_fitting.true (c.is_fitting.ensures g h n at) (all c.loop-place.place n at))
+    let at : slice_get nodes c.loop-place.place ≡ Some n =
+    slice_get-get_or nodes c.loop-place.place (record { op = 0; attrs = []; args = [] }) c.loop-place-test.true in
+    no_answer (λ all. never c.is_fitting.result c.if-not-is_fitting.true (c.is_fitting.ensures g h n at)
+    (all c.loop-place.place n at))
 
 pub returns : goal.returns
-returns c = λ g h. yes_answer (λ k n at. let l = slice_get_within c.args.nodes.now k n at in c.loop-place.invariant g h k n (omega arith) at)
+returns c =
+    λ g h. yes_answer (λ k n at. let l = slice_get_within c.args.nodes.now k n at in
+    c.loop-place.invariant g h k n (omega arith) at)

@@ -6,4 +6,6 @@ use Rattle.pattern_core.specs.Pattern.{IsFitting}
 use Rattle.pattern_core.proofs.well_formed.are_fitting.Given as goal
 
 abbrev pub invariant-loop-place : goal.invariant-loop-place
-invariant-loop-place l = (g : Goal) → slice_get (file l.spec).goals l.goal ≡ Some g → (k : ℕ) (n : Node) → k < l.place → slice_get l.nodes k ≡ Some n → IsFitting (file l.spec) g l.nodes k n
+invariant-loop-place l =
+    (g : Goal) → slice_get (file l.spec).goals l.goal ≡ Some g → (k : ℕ) (n : Node) → k < l.place
+    → slice_get l.nodes k ≡ Some n → IsFitting (file l.spec) g l.nodes k n

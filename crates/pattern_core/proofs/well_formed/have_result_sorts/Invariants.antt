@@ -8,4 +8,7 @@ use Rattle.pattern_core.specs.Pattern.{source_sort}
 use Rattle.pattern_core.proofs.well_formed.have_result_sorts.Given as goal
 
 abbrev pub invariant-loop-place : goal.invariant-loop-place
-invariant-loop-place l = (g : Goal) → slice_get (file l.spec).goals l.goal ≡ Some g → map (source_sort (file l.spec) g l.nodes (length l.nodes)) (take l.place l.sources) ≡ map (λ (at : TermId). sort_of (term_at l.spec.terms at)) (take l.place l.results)
+invariant-loop-place l =
+    (g : Goal) → slice_get (file l.spec).goals l.goal ≡ Some g
+    → map (source_sort (file l.spec) g l.nodes (length l.nodes)) (take l.place l.sources) ≡ map
+    (λ (at : TermId). sort_of (term_at l.spec.terms at)) (take l.place l.results)

@@ -6,4 +6,7 @@ use Rattle.pattern_core.specs.Pattern.{source_sort}
 use Rattle.pattern_core.proofs.well_formed.have_sorts.Given as goal
 
 abbrev pub invariant-loop-place : goal.invariant-loop-place
-invariant-loop-place l = (g : Goal) → slice_get (file l.spec).goals l.goal ≡ Some g → map (source_sort (file l.spec) g l.nodes l.count) (take l.place l.sources) ≡ map (λ (s : Sort). Some s) (take l.place l.sorts)
+invariant-loop-place l =
+    (g : Goal) → slice_get (file l.spec).goals l.goal ≡ Some g
+    → map (source_sort (file l.spec) g l.nodes l.count) (take l.place l.sources) ≡ map (λ (s : Sort). Some s)
+    (take l.place l.sorts)

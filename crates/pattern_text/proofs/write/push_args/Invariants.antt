@@ -5,4 +5,5 @@ use Rattle.pattern_text.specs.Text.{source_text}
 use Rattle.pattern_text.proofs.write.push_args.Given as goal
 
 abbrev pub invariant-loop-arg : goal.invariant-loop-arg
-invariant-loop-arg l = string_bytes l.out ≡ string_bytes l.fn.out ++ flat_map (λ s. codes " " ++ source_text s) (take l.arg-index l.args)
+invariant-loop-arg l =
+    string_bytes l.out ≡ string_bytes l.fn.out ++ flat_map (λ s. codes " " ++ source_text s) (take l.arg-index l.args)

@@ -5,4 +5,5 @@ use Rattle.std.specs.Fmt.{decimal}
 use Rattle.pattern_text.proofs.write.push_attrs.Given as goal
 
 abbrev pub invariant-loop-attr : goal.invariant-loop-attr
-invariant-loop-attr l = string_bytes l.out ≡ string_bytes l.fn.out ++ flat_map (λ a. codes " " ++ decimal a) (take l.attr-index l.attrs)
+invariant-loop-attr l =
+    string_bytes l.out ≡ string_bytes l.fn.out ++ flat_map (λ a. codes " " ++ decimal a) (take l.attr-index l.attrs)

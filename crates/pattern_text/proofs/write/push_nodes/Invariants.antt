@@ -5,4 +5,5 @@ use Rattle.pattern_text.specs.Text.{joined, node_text}
 use Rattle.pattern_text.proofs.write.push_nodes.Given as goal
 
 abbrev pub invariant-loop-place : goal.invariant-loop-place
-invariant-loop-place l = string_bytes l.out ≡ string_bytes l.fn.out ++ joined (map (node_text (file l.spec)) (take l.place l.nodes))
+invariant-loop-place l =
+    string_bytes l.out ≡ string_bytes l.fn.out ++ joined (map (node_text (file l.spec)) (take l.place l.nodes))

@@ -6,4 +6,5 @@ use Rattle.pattern_text.proofs.write.write_library.Given as goal
 
 abbrev pub invariant-loop-place : goal.invariant-loop-place
 invariant-loop-place l =
-    string_bytes l.out ≡ line (codes "(isel-library 1)") ++ answers_text (file l.spec) (take l.place (file l.spec).goals) (take l.place l.answers)
+    string_bytes l.out ≡ line (codes "(isel-library 1)")
+    ++ answers_text (file l.spec) (take l.place (file l.spec).goals) (take l.place l.answers)

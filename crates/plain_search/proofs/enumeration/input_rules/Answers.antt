@@ -6,4 +6,7 @@ use Rattle.plain_search.proofs.enumeration.input_rules.Goals as goal
 
 pub does_input_agree-requires : goal.does_input_agree-requires
 does_input_agree-requires c =
-    input_within c.args.wanted.now c.requires c.deref-place-items.result.now c.deref-in-loop-place.result.now c.loop-place.place-index (c.deref-place-items.ensures.value ∙ c.in_ok-places.ensures ∙ ap (λ (ss : List Sort). places ss c.args.wanted.now.sort) c.deref.ensures.value) c.deref-in-loop-place.ensures.value c.loop-place-test.true
+    input_within c.args.wanted.now c.requires c.deref-place-items.result.now c.deref-in-loop-place.result.now
+    c.loop-place.place-index (c.deref-place-items.ensures.value ∙ c.in_ok-places.ensures
+    ∙ ap (λ (ss : List Sort). places ss c.args.wanted.now.sort) c.deref.ensures.value)
+    c.deref-in-loop-place.ensures.value c.loop-place-test.true

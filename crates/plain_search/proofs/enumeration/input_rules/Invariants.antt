@@ -4,4 +4,5 @@ use Rattle.plain_search.specs.Candidates.{input_pattern}
 use Rattle.plain_search.proofs.enumeration.input_rules.Given as goal
 
 abbrev pub invariant-loop-place : goal.invariant-loop-place
-invariant-loop-place l = l.rules.items ≡ map input_pattern (filter (input_agrees l.wanted.cases.items) (take l.place-index l.place-items))
+invariant-loop-place l =
+    l.rules.items ≡ map input_pattern (filter (input_agrees l.wanted.cases.items) (take l.place-index l.place-items))

@@ -1,0 +1,307 @@
+-- The order of patterns is total, and only equal patterns of a goal are `Equal`.
+use Rattle.std.proofs.Common.{◌≡◌, ℕ, zero, suc, ◌<◌, ◌≤◌, Bool, true, false, ◌&&◌, cond, List, [], ◌∷◌, length, map}
+use Rattle.std.proofs.Common.{Option, Some, None, refl, sym, ap, ◌∙◌, subst, arith, slice_get}
+use Rattle.std.specs.Prelude.{nat_lt, nat_le, ◌==◌, option_and_then, IsSome}
+use Rattle.std.specs.List.{list_all}
+use Rattle.std.specs.Cmp.{IsTotalOrder, nat_cmp_total, on_total, then_total}
+use Rattle.std.specs.Cmp.Lexicographic.{lists_total, nat_list_cmp_total, slice_cmp}
+use Rattle.std.specs.FinMap.{nat_cmp-IsAntisymmetric, slice_cmp-IsAntisymmetric}
+use Rattle.std.specs.Ordering.{nat_cmp, ordering_then}
+use Rattle.std.specs.declared.cmp.Ordering.{Ordering}
+use Rattle.std.specs.declared.cmp.Ordering.TheVariants.{Less, Equal, Greater}
+use Rattle.std.proofs.lemmas.Bool.{and_parts, leb-true, ltb-true, false≢true}
+use Rattle.std.proofs.lemmas.List.{length-map}
+use Rattle.std.proofs.lemmas.Option.{slice_get_within, slice_get-get_or, unwrap_or-slice_get}
+use Rattle.bv_terms.specs.declared.op.TermId.{TermId}
+use Rattle.bv_terms.specs.declared.value.Sort.{Sort}
+use Rattle.bv_terms.specs.Term.{Term}
+use Rattle.bv_terms.specs.Sorts.{sort_of}
+use Rattle.bv_terms.specs.Table.{Table, IsTable, terms_of, term_in}
+use Rattle.isel_spec.specs.declared.definitions.OpDef.{OpDef}
+use Rattle.isel_spec.specs.declared.definitions.GoalDef.{GoalDef}
+use Rattle.isel_spec.specs.declared.spec.Spec.{Spec}
+use Rattle.isel_spec.specs.File.{File, Operation, Goal, operation, goal, are_sound, stays_in, scope, is_between}
+use Rattle.isel_spec.specs.File.{is_sound_op, is_sound_goal}
+use Rattle.isel_spec.specs.Spec.{file}
+use Rattle.pattern_core.specs.declared.pattern.Src.{Src}
+use Rattle.pattern_core.specs.declared.pattern.Src.TheVariants.{Input, Out}
+use Rattle.pattern_core.specs.declared.pattern.Node.{Node}
+use Rattle.pattern_core.specs.declared.pattern.Pattern.{Pattern}
+use Rattle.pattern_core.specs.Pattern.{operation_sort, source_sort, IsWellFormed}
+use Rattle.pattern_core.specs.Order.{source_number, source_cmp, node_cmp, multiset, pattern_cmp, IsTotalOrderOf}
+use Rattle.bv_terms.proofs.TableLemmas.{length-terms_of}
+use Rattle.pattern_core.proofs.EvalLemmas.{mapped_at}
+
+-- ---- total and transitive
+
+source_total : IsTotalOrder source_cmp
+source_total = on_total source_number nat_cmp_total
+
+node_total : IsTotalOrder node_cmp
+node_total =
+    then_total (on_total (λ (n : Node). n.op) nat_cmp_total)
+    (then_total (on_total (λ (n : Node). n.attrs) nat_list_cmp_total)
+    (on_total (λ (n : Node). n.args) (lists_total source_total)))
+
+pattern_total : IsTotalOrder pattern_cmp
+pattern_total =
+    then_total (on_total (λ (p : Pattern). length p.nodes) nat_cmp_total)
+    (then_total (on_total (λ (p : Pattern). multiset p.nodes) nat_list_cmp_total)
+    (then_total (on_total (λ (p : Pattern). p.nodes) (lists_total node_total))
+    (on_total (λ (p : Pattern). p.results) (lists_total source_total))))
+
+-- ---- what is `Equal`
+
+then_first : (r s : Ordering) → ordering_then r s ≡ Equal → r ≡ Equal
+then_first Less s e = cc
+then_first Equal s e = refl
+then_first Greater s e = cc
+
+then_second : (r s : Ordering) → ordering_then r s ≡ Equal → s ≡ Equal
+then_second Less s e = cc
+then_second Equal s e = e
+then_second Greater s e = cc
+
+-- the property of each element
+abbrev Each : {A : Type 0} → (A → Type 0) → List A → Type 0
+Each P [] = Unit {0}
+Each P (x ∷ xs) = P x × Each P xs
+
+-- an order of elements is that of lists of them
+same_lists : {A : Type 0} (P : A → Type 0) (R : A → A → Ordering)
+    → ((x y : A) → P x → P y → R x y ≡ Equal → x ≡ y) → (xs ys : List A) → Each P xs → Each P ys
+    → slice_cmp R xs ys ≡ Equal → xs ≡ ys
+same_lists P R same [] [] a b e = refl
+same_lists P R same [] (y ∷ ys) a b e = cc
+same_lists P R same (x ∷ xs) [] a b e = cc
+same_lists P R same (x ∷ xs) (y ∷ ys) a b e =
+    let first = same x y a.0 b.0 (then_first (R x y) (slice_cmp R xs ys) e) in
+    let rest = same_lists P R same xs ys a.1 b.1 (then_second (R x y) (slice_cmp R xs ys) e) in
+    λ i. first i ∷ rest i
+
+-- a source that a goal of at most four arguments and nodes of at most three results have
+abbrev IsSmall : Src → Type 0
+IsSmall (Input k) = k < 4
+IsSmall (Out node result) = result < 3
+
+same_source : (s t : Src) → IsSmall s → IsSmall t → source_cmp s t ≡ Equal → s ≡ t
+same_source (Input j) (Input k) a b e = ap (λ n. Input n) (nat_cmp-IsAntisymmetric j k e)
+same_source (Input j) (Out m r) a b e =
+    let same = nat_cmp-IsAntisymmetric j (source_number (Out m r)) e in
+    absurd (omega (arith, a, same))
+same_source (Out n q) (Input k) a b e =
+    let same = nat_cmp-IsAntisymmetric (source_number (Out n q)) k e in
+    absurd (omega (arith, b, same))
+same_source (Out n q) (Out m r) a b e =
+    let same = nat_cmp-IsAntisymmetric (source_number (Out n q)) (source_number (Out m r)) e in
+    let nodes : n ≡ m = omega (arith, a, b, same) in
+    let results : q ≡ r = omega (arith, a, b, same) in
+    λ i. Out (nodes i) (results i)
+
+HasSmall : Node → Type 0
+HasSmall n = Each IsSmall n.args
+
+same_node : (m n : Node) → HasSmall m → HasSmall n → node_cmp m n ≡ Equal → m ≡ n
+unfolding HasSmall
+same_node m n a b e =
+    let by_op = nat_cmp m.op n.op in
+    let by_attrs = slice_cmp nat_cmp m.attrs n.attrs in
+    let by_args = slice_cmp source_cmp m.args n.args in
+    let later = then_second by_op (ordering_then by_attrs by_args) e in
+    let ops = nat_cmp-IsAntisymmetric m.op n.op (then_first by_op (ordering_then by_attrs by_args) e) in
+    let attrs = slice_cmp-IsAntisymmetric nat_cmp-IsAntisymmetric m.attrs n.attrs (then_first by_attrs by_args later) in
+    let args = same_lists IsSmall source_cmp same_source m.args n.args a b (then_second by_attrs by_args later) in
+    λ i. record { op = ops i; attrs = attrs i; args = args i }
+
+record IsSmallPattern (p : Pattern) : Type 0 where
+  nodes : Each HasSmall p.nodes
+  results : Each IsSmall p.results
+
+same_pattern : (p q : Pattern) → IsSmallPattern p → IsSmallPattern q → pattern_cmp p q ≡ Equal → p ≡ q
+same_pattern p q a b e =
+    let by_size = nat_cmp (length p.nodes) (length q.nodes) in
+    let by_multiset = slice_cmp nat_cmp (multiset p.nodes) (multiset q.nodes) in
+    let by_nodes = slice_cmp node_cmp p.nodes q.nodes in
+    let by_results = slice_cmp source_cmp p.results q.results in
+    let second = then_second by_size (ordering_then by_multiset (ordering_then by_nodes by_results)) e in
+    let third = then_second by_multiset (ordering_then by_nodes by_results) second in
+    let nodes =
+    same_lists HasSmall node_cmp same_node p.nodes q.nodes a.nodes b.nodes (then_first by_nodes by_results third) in
+    let results =
+    same_lists IsSmall source_cmp same_source p.results q.results a.results b.results
+    (then_second by_nodes by_results third) in
+    λ i. record { nodes = nodes i; results = results i }
+
+-- ---- the sources of a well-formed pattern
+
+-- a goal of at most four arguments and results that have sorts, and operations of at most three results
+pub record IsLimited (f : File) (g : Goal) : Type 0 where
+  pub args : length g.args ≤ 4
+  pub sorted : Each (λ (t : Term). IsSome (sort_of t)) g.results
+  pub results : (k : ℕ) (o : Operation) → slice_get f.ops k ≡ Some o → length o.results ≤ 3
+
+is_some : {A B : Type 0} (F : A → Option B) (x : Option A) (y : B) → option_and_then F x ≡ Some y
+    → (a : A) × (x ≡ Some a)
+is_some F None y e = absurd (cc)
+is_some F (Some a) y e = (a, refl)
+
+in_then : {A : Type 0} (b : Bool) (x : Option A) (y : A) → cond b x None ≡ Some y → x ≡ Some y
+in_then true x y e = e
+in_then false x y e = absurd (cc)
+
+small_result : (o : Option Operation) (result : ℕ) (t : Sort) → ((p : Operation) → o ≡ Some p → length p.results ≤ 3)
+    → operation_sort o result ≡ Some t → result < 3
+small_result None result t few e = absurd (cc)
+small_result (Some o) result t few e =
+    let there = is_some sort_of (slice_get o.results result) t e in
+    let within = slice_get_within o.results result there.0 there.1 in
+    let three = few o refl in
+    omega (arith, within, three)
+
+small_source : (f : File) (g : Goal) → IsLimited f g → (nodes : List Node) (k : ℕ) (s : Src) (t : Sort)
+    → source_sort f g nodes k s ≡ Some t → IsSmall s
+small_source f g limits nodes k (Input i) t e =
+    let within = slice_get_within g.args i t e in
+    let four = limits.args in
+    omega (arith, within, four)
+small_source f g limits nodes k (Out node result) t e =
+    let op = option_and_then (λ (n : Node). slice_get f.ops n.op) (slice_get nodes node) in
+    small_result op result t (λ p. few (slice_get nodes node) p)
+    (in_then (nat_lt node k) (operation_sort op result) t e)
+  where
+    few : (n : Option Node) (p : Operation) → option_and_then (λ (n : Node). slice_get f.ops n.op) n ≡ Some p
+        → length p.results ≤ 3
+    few None p e = absurd (cc)
+    few (Some n) p e = limits.results n.op p e
+
+small_sources : (f : File) (g : Goal) → IsLimited f g
+    → (nodes : List Node) (k : ℕ) (xs : List Src) (os : List (Option Sort))
+    → map (source_sort f g nodes k) xs ≡ os → Each (λ (o : Option Sort). IsSome o) os → Each IsSmall xs
+small_sources f g limits nodes k [] os e all = tt
+small_sources f g limits nodes k (x ∷ xs) [] e all = absurd (cc)
+small_sources f g limits nodes k (x ∷ xs) (None ∷ os) e all = absurd (false≢true all.0)
+small_sources f g limits nodes k (x ∷ xs) (Some t ∷ os) e all =
+    let first : source_sort f g nodes k x ≡ Some t = cc in
+    let rest : map (source_sort f g nodes k) xs ≡ os = cc in
+    (small_source f g limits nodes k x t first, small_sources f g limits nodes k xs os rest all.1)
+
+all_some : (ss : List Sort) → Each (λ (o : Option Sort). IsSome o) (map (λ s. Some s) ss)
+all_some [] = tt
+all_some (s ∷ ss) = (refl, all_some ss)
+
+some_of : (ts : List Term) → Each (λ (t : Term). IsSome (sort_of t)) ts
+    → Each (λ (o : Option Sort). IsSome o) (map sort_of ts)
+some_of [] all = tt
+some_of (t ∷ ts) all = (all.0, some_of ts all.1)
+
+each_from_places : {A : Type 0} (P : A → Type 0) (xs : List A) → ((k : ℕ) (x : A) → slice_get xs k ≡ Some x → P x)
+    → Each P xs
+each_from_places P [] h = tt
+each_from_places P (x ∷ xs) h = (h zero x refl, each_from_places P xs (λ k. h (suc k)))
+
+small_pattern : (f : File) (g : Goal) → IsLimited f g → (p : Pattern) → IsWellFormed f g p → IsSmallPattern p
+unfolding HasSmall
+small_pattern f g limits p wf = record {
+  nodes = each_from_places HasSmall p.nodes (λ k n e.
+      let fit = wf.nodes k n e in
+      small_sources f g limits p.nodes k n.args (map (λ s. Some s) fit.operation.args) fit.args
+      (all_some fit.operation.args));
+  results =
+      small_sources f g limits p.nodes (length p.nodes) p.results (map sort_of g.results) wf.results
+      (some_of g.results limits.sorted);
+}
+
+pub is_total_order : (f : File) (g : Goal) → IsLimited f g → IsTotalOrderOf (IsWellFormed f g) pattern_cmp
+is_total_order f g limits = record {
+  total = λ p q _ _. let t = pattern_total in t.antisymm p q;
+  antisymmetric = λ p q a b. same_pattern p q (small_pattern f g limits p a) (small_pattern f g limits q b);
+  transitive = λ p q r _ _ _. let t = pattern_total in t.trans p q r;
+}
+
+-- ---- what a `Spec` keeps
+
+list_all_at : {X : Type 0} (p : X → Bool) (xs : List X) (k : ℕ) (x : X) → list_all p xs ≡ true → slice_get xs k ≡ Some x
+    → p x ≡ true
+list_all_at p [] k x h e = absurd (cc)
+list_all_at p (y ∷ ys) zero x h e = let s : y ≡ x = cc in ap p (sym s) ∙ (and_parts (p y) (list_all p ys) h).0
+list_all_at p (y ∷ ys) (suc k) x h e = list_all_at p ys k x (and_parts (p y) (list_all p ys) h).1 e
+
+at_most_three : (table : Table) (e : List ℕ × OpDef) → is_sound_op table e ≡ true → length e.1.results ≤ 3
+at_most_three table e h =
+    let a = nat_le (length e.1.args) 4 in
+    let b = nat_le (length e.1.attrs) 2 in
+    let n = is_between 1 3 (length e.1.results) in
+    let w = list_all (is_between 1 64) e.1.attrs in
+    let p = and_parts (a && b && n && w) (are_sound table (scope e.1) e.1.results) h in
+    let q = and_parts (a && b && n) w p.0 in
+    let m = and_parts (a && b) n q.0 in
+    leb-true (length e.1.results) 3 (and_parts (nat_le 1 (length e.1.results)) (nat_le (length e.1.results) 3) m.1).1
+
+few_results : (s : Spec) (k : ℕ) (o : Operation) → slice_get (file s).ops k ≡ Some o → length o.results ≤ 3
+few_results s k o e =
+    let at = mapped_at (operation s.terms) s.ops k o e in
+    let v = s.pointer == s.terms.pointer in
+    let n = nat_le (length s.ops) 64 in
+    let m = nat_le (length s.goals) 256 in
+    let os = list_all (is_sound_op s.terms) s.ops in
+    let gs = list_all (is_sound_goal s.terms) s.goals in
+    let sound = (and_parts (v && n && m) os (and_parts (v && n && m && os) gs s.sound).0).1 in
+    let three = at_most_three s.terms at.0 (list_all_at (is_sound_op s.terms) s.ops k at.0 sound at.1) in
+    subst (λ (p : Operation). length p.results ≤ 3) at.2
+    (subst (λ n. n ≤ 3) (sym (length-map at.0.1.results (λ (a : TermId). term_in (terms_of s.terms) a.0))) three)
+
+record IsSoundGoal (table : Table) (e : List ℕ × GoalDef) : Type 0 where
+  few : length e.1.args ≤ 4
+  results : are_sound table (map (λ a. a.1) e.1.args) e.1.results ≡ true
+
+sound_goal : (table : Table) (e : List ℕ × GoalDef) → is_sound_goal table e ≡ true → IsSoundGoal table e
+sound_goal table e h =
+    let a = nat_le (length e.1.args) 4 in
+    let n = is_between 1 3 (length e.1.results) in
+    let p = and_parts (a && n) (are_sound table (map (λ x. x.1) e.1.args) e.1.results) h in
+    record { few = leb-true (length e.1.args) 4 (and_parts a n p.0).0; results = p.1 }
+
+term_there : (ts : List Term) (k : ℕ) → k < length ts → slice_get ts k ≡ Some (term_in ts k)
+term_there ts k l =
+    slice_get-get_or ts k (term_in [] 0) l ∙ ap (λ t. Some t) (sym (unwrap_or-slice_get ts k (term_in [] 0)))
+
+-- results that stand in a table have sorts
+sorted_results : (table : Table) → IsTable table → (ss : List Sort) (ats : List TermId)
+    → are_sound table ss ats ≡ true
+    → Each (λ (t : Term). IsSome (sort_of t)) (map (λ (a : TermId). term_in (terms_of table) a.0) ats)
+sorted_results table is ss [] h = tt
+sorted_results table is ss (at ∷ ats) h =
+    let there = nat_lt at.0 (length table.nodes) in
+    let stays = stays_in ss (term_in (terms_of table) at.0) in
+    let both = and_parts (there && stays) (are_sound table ss ats) h in
+    let within = ltb-true at.0 (length table.nodes) (and_parts there stays both.0).0 in
+    let long = length-terms_of table in
+    let first =
+    is.well_sorted at.0 (term_in (terms_of table) at.0)
+    (term_there (terms_of table) at.0 (omega (arith, within, long))) in
+    (first, sorted_results table is ss ats both.1)
+
+limited_goal : (table : Table) → IsTable table → (e : List ℕ × GoalDef) → is_sound_goal table e ≡ true
+    → (length (goal table e).args ≤ 4) × Each (λ (t : Term). IsSome (sort_of t)) (goal table e).results
+limited_goal table is e h =
+    let k = sound_goal table e h in (
+      subst (λ n. n ≤ 4) (sym (length-map e.1.args (λ a. a.1))) k.few,
+      sorted_results table is (map (λ a. a.1) e.1.args) e.1.results k.results,
+    )
+
+pub IsLimited-from_spec : (s : Spec) (k : ℕ) (g : Goal) → IsTable s.terms → slice_get (file s).goals k ≡ Some g
+    → IsLimited (file s) g
+IsLimited-from_spec s k g table e =
+    let at = mapped_at (goal s.terms) s.goals k g e in
+    let v = s.pointer == s.terms.pointer in
+    let n = nat_le (length s.ops) 64 in
+    let m = nat_le (length s.goals) 256 in
+    let os = list_all (is_sound_op s.terms) s.ops in
+    let gs = list_all (is_sound_goal s.terms) s.goals in
+    let sound = (and_parts (v && n && m && os) gs s.sound).1 in
+    let limits = limited_goal s.terms table at.0 (list_all_at (is_sound_goal s.terms) s.goals k at.0 sound at.1) in
+    record {
+      args = subst (λ (x : Goal). length x.args ≤ 4) at.2 limits.0;
+      sorted = subst (λ (x : Goal). Each (λ (t : Term). IsSome (sort_of t)) x.results) at.2 limits.1;
+      results = few_results s;
+    }

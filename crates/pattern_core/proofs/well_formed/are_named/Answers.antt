@@ -1,6 +1,0 @@
-use Rattle.pattern_core.specs.Pattern.{IsNamed}
-use borrow.Author.Count.{below_more}
-use Rattle.pattern_core.proofs.well_formed.are_named.Goals as goal
-
-pub loop-node-preserved : goal.loop-node-preserved
-loop-node-preserved c = below_more (λ k. IsNamed c.args.pattern.now k) c.loop-node.node c.loop-node.invariant (c.is_named.ensures.0 c.if-not-is_named.false)

@@ -1,5 +1,0 @@
-use Rattle.pattern_core.proofs.SoundLemmas.{looked_up}
-use Rattle.pattern_core.proofs.well_formed.goal_at.Goals as goal
-
-pub returns : goal.returns
-returns c = (c.unwrap.result.0.now, looked_up (λ e. (e.0.now, e.1.now)) c.get.result c.unwrap.result _ c.get.ensures c.unwrap.ensures)
