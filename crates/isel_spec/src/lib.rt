@@ -12,7 +12,7 @@ mod small_form;
 mod spec;
 
 pub use definitions::{GoalDef, Kind, OpDef};
-pub use small_form::{FILE_LIMIT, FirstFault, one_first_file, read_first};
+pub use small_form::{FirstFault, one_first_file, read_first};
 pub use spec::Spec;
 
 #[cfg(test)]

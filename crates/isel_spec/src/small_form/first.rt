@@ -11,11 +11,9 @@ ghost use Rattle.isel_spec.specs.Reading.{Tells};
 use crate::small_form::fault::FirstFault;
 use crate::small_form::file::file;
 use crate::spec::Spec;
+use isel_base::FILE_LIMIT;
 use sexp_read::Forest;
 use std::alloc::Global;
-
-/// How many bytes a file may have.
-pub const FILE_LIMIT: usize = 1 << 20;
 
 /// The words and lists of a text.
 fn forest_of(alloc: Global, bytes: &[u8]) -> Result<Forest, FirstFault>

@@ -17,4 +17,4 @@ mod term;
 mod words;
 
 pub use fault::FirstFault;
-pub use first::{FILE_LIMIT, one_first_file, read_first};
+pub use first::{one_first_file, read_first};
