@@ -18,6 +18,3 @@ mod value;
 pub use op::{MakeFault, Op, TermId};
 pub use terms::Terms;
 pub use value::{Env, Sort, Value};
-
-#[cfg(test)]
-mod tests;

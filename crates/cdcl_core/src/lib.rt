@@ -20,6 +20,3 @@ mod search;
 mod trail;
 
 pub use search::{Answer, solve};
-
-#[cfg(test)]
-mod tests;

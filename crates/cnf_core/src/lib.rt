@@ -27,6 +27,3 @@ pub use fuel::Fuel;
 pub use law::{new_clauses_bound, no_model};
 pub use log::{Chain, Log};
 pub use new_clause::is_new_clause;
-
-#[cfg(test)]
-mod tests;

@@ -1,4 +1,12 @@
-//! The tests, a module for each pair of crates that meet.
+//! A module for each subject.
 
+mod files;
+mod formulas;
+mod lists;
+mod logs;
+mod multisets;
+mod orders;
 mod patterns;
 mod refutations;
+mod solver;
+mod terms;

@@ -14,6 +14,3 @@ mod spec;
 pub use definitions::{GoalDef, Kind, OpDef};
 pub use small_form::{FirstFault, one_first_file, read_first};
 pub use spec::Spec;
-
-#[cfg(test)]
-mod tests;

@@ -19,6 +19,3 @@ mod plan;
 pub use multi::Multi;
 pub use order::{count, rank, unrank};
 pub use plan::{ClaimPlan, TooMany};
-
-#[cfg(test)]
-mod tests;

@@ -21,6 +21,3 @@ pub use meaning::{eval, eval_goal};
 pub use pattern::{GoalAnswer, Node, Pattern, Src};
 pub use walk::is_canonical;
 pub use well_formed::is_well_formed;
-
-#[cfg(test)]
-mod tests;

@@ -16,6 +16,3 @@ mod new_clauses;
 
 pub use check::{Verdict, check_log};
 pub use new_clauses::are_new_clauses;
-
-#[cfg(test)]
-mod tests;

@@ -15,6 +15,3 @@ mod token;
 pub use fault::SexpFault;
 pub use forest::{Body, Forest, Item};
 pub use reader::{one_fault, one_reading, read};
-
-#[cfg(test)]
-mod tests;

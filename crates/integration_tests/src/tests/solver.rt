@@ -1,6 +1,6 @@
 //! Answers on small formulas, by hand.
 
-use crate::{Answer, solve};
+use cdcl_core::{Answer, solve};
 use cnf_core::{Clause, Cnf, Fuel, Lit};
 use collections::Seq;
 use std::alloc::{AllocError, Global};

@@ -2,7 +2,7 @@
 
 ghost use Rattle.std.specs.Prelude.{◌≡◌, ◌∷◌, [], IfOk};
 
-use crate::{Chain, Clause, Cnf, Lit, Log, is_new_clause, new_clauses_bound, no_model};
+use cnf_core::{Chain, Clause, Cnf, Lit, Log, is_new_clause, new_clauses_bound, no_model};
 use collections::Seq;
 use std::alloc::{AllocError, Global};
 use std::test::Fail;

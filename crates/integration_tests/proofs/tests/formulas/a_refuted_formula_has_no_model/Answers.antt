@@ -9,7 +9,7 @@ use Rattle.cnf_core.specs.declared.log.Chain.{Chain}
 use Rattle.cnf_core.specs.Clause.{IsSubset}
 use Rattle.cnf_core.specs.Resolution.{clause, IsAccepted, IsNewClause, AreNewClauses}
 use Rattle.cnf_core.proofs.Sets.{contains-head}
-use Rattle.cnf_core.proofs.tests.a_refuted_formula_has_no_model.Goals as goal
+use Rattle.integration_tests.proofs.tests.formulas.a_refuted_formula_has_no_model.Goals as goal
 
 abbrev literal : Bool → Lit
 literal sign = record { variable = 0; positive = sign }

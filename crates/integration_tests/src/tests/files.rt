@@ -1,6 +1,7 @@
 //! Which bytes are read, by cases one for each cause of refusal, and what a file that was read says.
 
-use crate::{FILE_LIMIT, FirstFault, Kind, read_first};
+use isel_base::FILE_LIMIT;
+use isel_spec::{FirstFault, Kind, read_first};
 use bv_terms::{Op, Sort, TermId};
 use std::alloc::{AllocError, Global};
 use std::test::Fail;

@@ -6,8 +6,7 @@ ghost use Rattle.bv_terms.specs.Sorts.{HasSort, InputFits, InputsFit};
 ghost use Rattle.bv_terms.specs.Table.{term_at};
 ghost use Rattle.bv_terms.specs.Subterm.{IsTopological};
 
-use crate::value::mask;
-use crate::*;
+use bv_terms::*;
 use collections::Seq;
 use std::alloc::{AllocError, Global};
 use std::test::Fail;
@@ -160,7 +159,7 @@ fn has_sort(value: Value, sort: Sort) -> bool
     match (value, sort) {
         (Value::Bool(_), Sort::Bool) => true,
         (Value::Bits { width, number }, Sort::Bits(wanted)) => {
-            width == wanted && width <= 64 && number <= mask(width)
+            width == wanted && (width == 64 || width < 64 && number < 1u64 << width)
         }
         _ => false,
     }

@@ -4,7 +4,7 @@ ghost use Rattle.std.specs.Prelude.{◌≡◌, ◌<◌, ◌≤◌, ◌↔◌, le
 ghost use Rattle.multiset_rank.specs.Multisets.{multisets};
 ghost use Rattle.multiset_rank.specs.Claims.{claims};
 
-use crate::{ClaimPlan, Multi, TooMany, count, rank, unrank};
+use multiset_rank::{ClaimPlan, Multi, TooMany, count, rank, unrank};
 use std::process::Abort;
 use std::test::Fail;
 

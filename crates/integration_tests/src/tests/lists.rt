@@ -1,6 +1,6 @@
 //! Faults and forests of small texts, and the accessors on one of them.
 
-use super::*;
+use sexp_read::*;
 use std::test::*;
 
 #[test]

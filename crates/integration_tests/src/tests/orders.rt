@@ -2,7 +2,7 @@
 
 ghost use Rattle.std.specs.Prelude.{◌≡◌, ◌≤◌, length, IfOk};
 
-use crate::{Node, Pattern, Src, order};
+use pattern_core::{Node, Pattern, Src, order};
 use collections::Seq;
 use std::alloc::{AllocError, Global};
 use std::cmp::Ordering;

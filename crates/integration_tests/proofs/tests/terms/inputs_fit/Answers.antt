@@ -1,7 +1,7 @@
 use Rattle.std.proofs.Common.{below_more, subst}
 use Rattle.bv_terms.specs.Sorts.{InputFits}
 use Rattle.bv_terms.proofs.EvalLemmas.{InputsFit-node}
-use Rattle.bv_terms.proofs.tests.inputs_fit.Goals as goal
+use Rattle.integration_tests.proofs.tests.terms.inputs_fit.Goals as goal
 
 pub loop-place-preserved : goal.loop-place-preserved
 loop-place-preserved c =

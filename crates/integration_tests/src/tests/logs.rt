@@ -1,6 +1,6 @@
 //! Logs over formulas of x and y, and their verdicts by hand.
 
-use crate::{Verdict, are_new_clauses, check_log};
+use proof_check::{Verdict, are_new_clauses, check_log};
 use cnf_core::{Chain, Clause, Cnf, Lit, Log};
 use collections::Seq;
 use std::alloc::{AllocError, Global};
