@@ -4,10 +4,12 @@ ghost use Rattle.std.specs.Prelude.{◌<◌, length, IsTrue};
 ghost use Rattle.bv_terms.specs.declared.op.TermId.{TermId};
 ghost use Rattle.bv_terms.specs.Sorts.{HasSort, InputFits, InputsFit};
 ghost use Rattle.bv_terms.specs.Table.{term_at};
+ghost use Rattle.bv_terms.specs.Subterm.{IsTopological};
 
 use crate::value::mask;
 use crate::*;
 use collections::Seq;
+use std::alloc::{AllocError, Global};
 use std::test::Fail;
 
 /// Makes a node where its arguments are in the table.
@@ -39,68 +41,89 @@ fn are_nodes(terms: &Terms, ops: &[Op]) -> bool {
     true
 }
 
+/// Whether a node is refused for this fault, and the table is still that of these operations.
+fn is_refused(terms: &mut Terms, op: Op, args: &[TermId], fault: MakeFault, ops: &[Op]) -> bool {
+    make(terms, op, args) == Some(Err(fault)) && are_nodes(terms, ops)
+}
+
+const INPUTS: [Op; 3] = [
+    Op::Input {
+        number: 0,
+        sort: Sort::Bits(8),
+    },
+    Op::Input {
+        number: 1,
+        sort: Sort::Bits(16),
+    },
+    Op::Input {
+        number: 2,
+        sort: Sort::Bool,
+    },
+];
+
+const REFUSED: [(&str, Op, &[TermId], MakeFault); 8] = [
+    (
+        "two widths",
+        Op::BvAdd,
+        &[TermId(0), TermId(1)],
+        MakeFault::Sorts { place: 1 },
+    ),
+    (
+        "no bit-vector first",
+        Op::BvAdd,
+        &[TermId(2), TermId(1)],
+        MakeFault::Sorts { place: 0 },
+    ),
+    (
+        "no bit-vector second",
+        Op::BvAnd,
+        &[TermId(0), TermId(2)],
+        MakeFault::Sorts { place: 1 },
+    ),
+    (
+        "three arguments",
+        Op::BvXor,
+        &[TermId(0), TermId(1), TermId(2)],
+        MakeFault::Arity,
+    ),
+    ("no argument", Op::BvNot, &[], MakeFault::Arity),
+    (
+        "input of width 0",
+        Op::Input {
+            number: 0,
+            sort: Sort::Bits(0),
+        },
+        &[],
+        MakeFault::Index,
+    ),
+    (
+        "input of width 65",
+        Op::Input {
+            number: 0,
+            sort: Sort::Bits(65),
+        },
+        &[],
+        MakeFault::Index,
+    ),
+    (
+        "constant 2^width",
+        Op::Bits {
+            width: 8,
+            number: 256,
+        },
+        &[],
+        MakeFault::Index,
+    ),
+];
+
 #[test]
 fn make_tells_the_first_fault(rt: HostRuntime) -> Result<(), Fail> {
-    let inputs = [
-        input(0, Sort::Bits(8)),
-        input(1, Sort::Bits(16)),
-        input(2, Sort::Bool),
-    ];
     let mut terms = Terms::new(rt.alloc(), 32);
-    for op in inputs {
+    for op in INPUTS {
         terms.make(op, &[])?;
     }
-    let (narrow, wide, truth) = (TermId(0), TermId(1), TermId(2));
-    for (case, op, args, fault) in [
-        (
-            "two widths",
-            Op::BvAdd,
-            [narrow, wide].as_slice(),
-            MakeFault::Sorts { place: 1 },
-        ),
-        (
-            "no bit-vector first",
-            Op::BvAdd,
-            [truth, wide].as_slice(),
-            MakeFault::Sorts { place: 0 },
-        ),
-        (
-            "no bit-vector second",
-            Op::BvAnd,
-            [narrow, truth].as_slice(),
-            MakeFault::Sorts { place: 1 },
-        ),
-        (
-            "too many arguments",
-            Op::BvXor,
-            [narrow, wide, truth].as_slice(),
-            MakeFault::Arity,
-        ),
-        ("no argument", Op::BvNot, [].as_slice(), MakeFault::Arity),
-        (
-            "an input of width 0",
-            input(0, Sort::Bits(0)),
-            [].as_slice(),
-            MakeFault::Index,
-        ),
-        (
-            "an input of width 65",
-            input(0, Sort::Bits(65)),
-            [].as_slice(),
-            MakeFault::Index,
-        ),
-        (
-            "2^width",
-            Op::Bits {
-                width: 8,
-                number: 256,
-            },
-            [].as_slice(),
-            MakeFault::Index,
-        ),
-    ] {
-        assert_eq!(rt; make(&mut terms, op, args), Some(Err(fault)), "{case}");
-        assert!(rt; are_nodes(&terms, &inputs), "{case}");
+    for (case, op, args, fault) in REFUSED {
+        assert!(rt; is_refused(&mut terms, op, args, fault, &INPUTS), "{case}");
     }
     Ok(())
 }
@@ -143,78 +166,97 @@ fn has_sort(value: Value, sort: Sort) -> bool
     }
 }
 
+/// Values of width-bit inputs.
+fn env_of(alloc: Global, width: u8, numbers: [u64; 2]) -> Result<Env, AllocError> {
+    let values = vec![in alloc;
+        Value::Bits {
+            width,
+            number: numbers[0]
+        },
+        Value::Bits {
+            width,
+            number: numbers[1]
+        },
+    ]?;
+    Ok(Env {
+        values: Seq::from_vec(values),
+    })
+}
+
+/// A table of the inputs 0 and 1 and then an operation over as many of them as it takes.
+fn table_of(alloc: Global, op: Op, width: u8) -> Result<Terms, MakeFault> {
+    let sort = Sort::Bits(width);
+    let mut terms = Terms::new(alloc, 32);
+    let first = terms.make(input(0, sort), &[])?;
+    let second = terms.make(input(1, sort), &[])?;
+    let args = [first, second];
+    make(&mut terms, op, &args[..op.arity().min(2)]).unwrap_or(Err(MakeFault::Arity))?;
+    Ok(terms)
+}
+
+/// The value of node 2 of three, where the inputs fit.
+fn third_value(terms: &Terms, env: &Env) -> Option<Value> {
+    let mut room = [Value::Bool(false); 3];
+    if terms.len() != 3 || !inputs_fit(terms, env) {
+        return None;
+    }
+    Some(terms.eval(TermId(2), env, &mut room))
+}
+
 #[test]
 fn eval_follows_the_standard(rt: HostRuntime) -> Result<(), Fail> {
     let max = u64::MAX;
-    for (case, op, width, s, t, number) in [
-        ("not", Op::BvNot, 8, 0x5a, 0, 0xa5),
-        ("and", Op::BvAnd, 8, 0xf0, 0x3c, 0x30),
-        ("or", Op::BvOr, 8, 0xf0, 0x3c, 0xfc),
-        ("xor", Op::BvXor, 8, 0xf0, 0x3c, 0xcc),
-        ("sum", Op::BvAdd, 8, 0x80, 0x81, 0x01),
-        ("difference", Op::BvSub, 8, 0x05, 0xff, 0x06),
-        ("not, 64 bits", Op::BvNot, 64, 0, 0, max),
-        ("sum, 64 bits", Op::BvAdd, 64, max, 1, 0),
-        ("difference, 64 bits", Op::BvSub, 64, 0, 1, max),
+    for (case, op, width, numbers, number) in [
+        ("not", Op::BvNot, 8, [0x5a, 0], 0xa5),
+        ("and", Op::BvAnd, 8, [0xf0, 0x3c], 0x30),
+        ("or", Op::BvOr, 8, [0xf0, 0x3c], 0xfc),
+        ("xor", Op::BvXor, 8, [0xf0, 0x3c], 0xcc),
+        ("sum", Op::BvAdd, 8, [0x80, 0x81], 0x01),
+        ("difference", Op::BvSub, 8, [0x05, 0xff], 0x06),
+        ("not, 64 bits", Op::BvNot, 64, [0, 0], max),
+        ("sum, 64 bits", Op::BvAdd, 64, [max, 1], 0),
+        ("difference, 64 bits", Op::BvSub, 64, [0, 1], max),
     ] {
-        let sort = Sort::Bits(width);
-        let mut terms = Terms::new(rt.alloc(), 32);
-        let first = terms.make(input(0, sort), &[])?;
-        let second = terms.make(Op::Bits { width, number: t }, &[])?;
-        let args = [first, second];
-        let made = make(&mut terms, op, &args[..op.arity().min(2)]);
-        assert_eq!(rt; made, Some(Ok(TermId(2))), "{case}");
-        let env = Env {
-            values: Seq::from_vec(vec![in rt.alloc(); Value::Bits { width, number: s }]?),
-        };
-        let mut room = [Value::Bool(false); 3];
-        assert!(rt; 2 < terms.len() && terms.len() <= 3 && inputs_fit(&terms, &env));
-        let value = terms.eval(TermId(2), &env, &mut room);
-        assert_eq!(rt; value, Value::Bits { width, number }, "{case}");
+        let terms = table_of(rt.alloc(), op, width)?;
+        let env = env_of(rt.alloc(), width, numbers)?;
+        assert!(rt;
+            third_value(&terms, &env) == Some(Value::Bits { width, number }),
+            "{case}"
+        );
     }
     Ok(())
 }
 
-/// Nodes 0, 1, 3 and 5 are those of the last one's subterms; 2 and 4 stand between and are none.
+/// Nodes 0, 2 and 4 are those of the last one's subterms; 1 and 3 stand between and are none.
+fn table_with_others(alloc: Global) -> Result<Terms, MakeFault> {
+    let mut terms = table_of(alloc, Op::BvNot, 8)?;
+    make(&mut terms, Op::BvOr, &[TermId(1), TermId(2)]).unwrap_or(Err(MakeFault::Arity))?;
+    make(&mut terms, Op::BvSub, &[TermId(2), TermId(0)]).unwrap_or(Err(MakeFault::Arity))?;
+    Ok(terms)
+}
+
+/// The room after the nodes' values were set, where it was true in all places.
+fn room_after(terms: &Terms, nodes: &[TermId], env: &Env) -> Option<[Value; 5]>
+    requires { IsTopological terms.now nodes.now }
+{
+    let mut room = [Value::Bool(true); 5];
+    if terms.len() != 5 || !inputs_fit(terms, env) {
+        return None;
+    }
+    terms.eval_nodes(nodes, env, &mut room);
+    Some(room)
+}
+
 #[test]
 fn only_nodes_of_subterms_are_evaluated(rt: HostRuntime) -> Result<(), Fail> {
-    let width = 8;
-    let mut terms = Terms::new(rt.alloc(), 32);
-    for (op, args) in [
-        (input(0, Sort::Bits(8)), [].as_slice()),
-        (Op::Bits { width, number: 3 }, [].as_slice()),
-        (input(1, Sort::Bits(8)), [].as_slice()),
-        (Op::BvAdd, [TermId(0), TermId(1)].as_slice()),
-        (Op::BvOr, [TermId(2), TermId(3)].as_slice()),
-        (Op::BvXor, [TermId(3), TermId(0)].as_slice()),
-    ] {
-        make(&mut terms, op, args);
-    }
-    let results = [TermId(5)];
-    assert!(rt; terms.len() == 6);
-    let nodes = terms.subterms(rt.alloc(), &results)?;
-    assert_eq!(rt;
-        nodes.as_slice(),
-        [TermId(0), TermId(1), TermId(3), TermId(5)].as_slice()
-    );
-    let env = Env {
-        values: Seq::from_vec(vec![in rt.alloc();
-            Value::Bits { width, number: 6 },
-            Value::Bits { width, number: 0 },
-        ]?),
-    };
-    assert!(rt; inputs_fit(&terms, &env));
-    let mut room = [Value::Bool(true); 6];
-    terms.eval_nodes(&nodes, &env, &mut room);
-    let bits = [6, 3, 9, 15].map(|number| Value::Bits { width, number });
-    let wanted = [
-        bits[0],
-        bits[1],
-        Value::Bool(true),
-        bits[2],
-        Value::Bool(true),
-        bits[3],
-    ];
-    assert_eq!(rt; room, wanted);
+    let terms = table_with_others(rt.alloc())?;
+    let env = env_of(rt.alloc(), 8, [0x0f, 0])?;
+    let last = TermId(4);
+    assert!(rt; last.0 < terms.len());
+    let nodes = terms.subterms(rt.alloc(), &[last])?;
+    assert!(rt; nodes.as_slice() == [TermId(0), TermId(2), last].as_slice());
+    let [first, second, third] = [0x0f, 0xf0, 0xe1].map(|number| Value::Bits { width: 8, number });
+    let other = Value::Bool(true);
+    assert!(rt; room_after(&terms, &nodes, &env) == Some([first, other, second, other, third]));
     Ok(())
 }

@@ -1,4 +1,7 @@
-ghost use Rattle.std.specs.Prelude.{◌≡◌, ◌↔◌, [], ◌∷◌, ◌++◌, length, map, slice_get, option_map, Contains, IsTrue, OnOk, OnErr};
+//! A table of values under names. No two names are equal, and the order is that in which they were added.
+
+ghost use Rattle.std.specs.Prelude.{◌≡◌, ◌↔◌, [], ◌∷◌, ◌++◌, length, map, slice_get, option_map, Contains};
+ghost use Rattle.std.specs.Prelude.{IsTrue, OnOk, OnErr};
 ghost use Rattle.std.specs.String.{string_bytes};
 
 use indexmap::IndexMap;
@@ -60,7 +63,7 @@ impl<T> NameMap<T> {
 }
 
 impl<T: Drop> NameMap<T> {
-    /// Adds a value under a new name. An `Err` is want of memory; it leaves the table as it was.
+    /// Adds a value under a new name. An `Err` is out of memory; it leaves the table as it was.
     pub fn insert(&mut self, name: String, value: T) -> Result<(), AllocError>
         requires { ¬ Contains (map (λ e. e.0) self.old) (string_bytes name) }
         ensures ok { OnOk result (self.new ≡ self.old ++ (string_bytes name, value) ∷ []) }

@@ -1,3 +1,5 @@
+//! A list for public fields: a `Vec` that is equal to another where its elements are.
+
 ghost use Rattle.std.specs.Prelude.{◌≡◌, [], ◌∷◌, ◌++◌, IsTrue, ◌↔◌, OnOk, OnErr, IfErr, length};
 
 use std::alloc::{AllocFailed, Global};
@@ -66,7 +68,7 @@ impl<T> Seq<T> {
         self.elements.is_empty()
     }
 
-    /// Adds an element at the end. An `Err` is want of memory; it gives the element back and
+    /// Adds an element at the end. An `Err` is out of memory; it gives the element back and
     /// leaves the list as it was.
     pub fn push(&mut self, element: T) -> Result<(), AllocFailed<T>>
         ensures ok { OnOk result (self.new ≡ self.old ++ element ∷ []) }

@@ -39,7 +39,7 @@ In_of_size : (p : Plan) (s : ℕ) (u : ℕ × List ℕ) → In (claims_of_size p
     → (u.0 < p.goals) × In (multisets p.kinds s) u.1
 In_of_size p s u h =
     let r = In_of_flat_map (of_goal p s) (range_with_len 0 p.goals) u
-        (subst (λ us. In us u) (claims_of_size-flat_map p s) h) in
+    (subst (λ us. In us u) (claims_of_size-flat_map p s) h) in
     let g = In_of_goal p s r.0 u r.2 in
     let l = In_of_range 0 p.goals r.0 r.1 in
     (omega (arith, g.0, l.1), g.1)
@@ -49,8 +49,8 @@ In-size : (p : Plan) (s goal : ℕ) (xs : List ℕ) → goal < p.goals → In (m
 In-size p s goal xs l h =
     subst (λ us. In us (goal, xs)) (sym (claims_of_size-flat_map p s))
     (In-flat_map (of_goal p s) (range_with_len 0 p.goals) goal (goal, xs)
-        (In-range 0 p.goals goal (omega arith) (omega (arith, l)))
-        (In-map (λ ys. (goal, ys)) (multisets p.kinds s) xs h))
+    (In-range 0 p.goals goal (omega arith) (omega (arith, l)))
+    (In-map (λ ys. (goal, ys)) (multisets p.kinds s) xs h))
 
 long : (p : Plan) (s : ℕ) (xs : List ℕ) → In (multisets p.kinds s) xs → length xs ≡ s
 long p s xs h = (In_of_multisets p.kinds s xs h).0
@@ -92,7 +92,7 @@ goal-ordered : (p : Plan) (s goal : ℕ) → IsOrdered ClaimBefore (of_goal p s 
 goal-ordered p s goal =
     IsOrdered-map Follows ClaimBefore (λ xs. (goal, xs)) (ClaimBefore-multiset goal) (multisets p.kinds s)
     (IsOrdered-within Before Follows (multisets p.kinds s) (λ x y i j b. (b, long p s x i ∙ sym (long p s y j)))
-        (multisets-ordered p.kinds s))
+    (multisets-ordered p.kinds s))
 
 size-ordered : (p : Plan) (s : ℕ) → IsOrdered ClaimBefore (claims_of_size p s)
 size-ordered p s =
@@ -118,7 +118,7 @@ In_of_claims : (p : Plan) (goal : ℕ) (xs : List ℕ) → In (claims p) (goal, 
     → IsInPlan p goal xs × IsTrue (never_falls xs)
 In_of_claims p goal xs h =
     let r = In_of_flat_map (claims_of_size p) (range_with_len 0 (p.bound + 1)) (goal, xs)
-        (subst (λ us. In us (goal, xs)) (claims-flat_map p) h) in
+    (subst (λ us. In us (goal, xs)) (claims-flat_map p) h) in
     let l = In_of_range 0 (p.bound + 1) r.0 r.1 in
     let s = In_of_size p r.0 (goal, xs) r.2 in
     let m = In_of_multisets p.kinds r.0 xs s.1 in
@@ -130,14 +130,16 @@ In-claims p goal xs h t =
     let w = h.size_within in
     subst (λ us. In us (goal, xs)) (sym (claims-flat_map p))
     (In-flat_map (claims_of_size p) (range_with_len 0 (p.bound + 1)) (length xs) (goal, xs)
-        (In-range 0 (p.bound + 1) (length xs) (omega arith) (omega (arith, w)))
+    (In-range 0 (p.bound + 1) (length xs) (omega arith) (omega (arith, w)))
     (In-size p (length xs) goal xs h.goal_below (In-multisets p.kinds (length xs) xs refl h.kinds_below t)))
 
 pub claims_law : (p : Plan) → AreClaims p (claims p)
 claims_law p = record {
   rising = AllPairs-from_ordered ClaimBefore (claims p) (claims-ordered p);
-  members = λ goal xs. (λ c. In_of_claims p goal xs (In-from_Contains (claims p) (goal, xs) c),
-      λ h. Contains-from_In (claims p) (goal, xs) (In-claims p goal xs h.0 h.1));
+  members = λ goal xs. (
+    λ c. In_of_claims p goal xs (In-from_Contains (claims p) (goal, xs) c),
+    λ h. Contains-from_In (claims p) (goal, xs) (In-claims p goal xs h.0 h.1),
+  );
 }
 
 pub claim_once : (p : Plan) (place : ℕ) (u : ℕ × List ℕ) → slice_get (claims p) place ≡ Some u

@@ -1,5 +1,5 @@
 pub mod CountLemmas
-pub mod HeldLemmas
+pub mod PaddedLemmas
 pub mod ListLemmas
 pub mod RisingLemmas
 pub mod TupleLemmas

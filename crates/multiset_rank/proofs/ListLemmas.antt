@@ -101,8 +101,11 @@ In_of_range a (suc n) x (inr h) = let r = In_of_range (a + 1) n x h in (omega (a
 pub In-range : (a n x : ℕ) → a ≤ x → x < a + n → In (range_with_len a n) x
 In-range a zero x l h = absurd (omega (arith, l, h))
 In-range a (suc n) x l h =
-    elim (cases_lt a x) [ inl less ↦ inr
-    (In-range (a + 1) n x (omega (arith, less)) (omega (arith, h))) | inr more ↦ inl (omega (arith, l, more)) ]
+    elim (cases_lt a x) [
+      | inl less ↦ inr
+          (In-range (a + 1) n x (omega (arith, less)) (omega (arith, h)))
+      | inr more ↦ inl (omega (arith, l, more))
+    ]
 
 -- each element stands in R to all that follow it
 abbrev pub IsOrdered : {X : Type 0} → (X → X → Type 0) → List X → Type 0

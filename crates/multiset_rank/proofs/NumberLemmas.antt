@@ -23,9 +23,9 @@ blocks_from f a zero (suc n) r q l h e =
     let z = add-zero a in
     let same : q ≡ r = omega (arith, e) in
     let within : q < length (f a) =
-        subst (λ b. q < length (f b)) z (subst (λ t. t < length (f (a + 0))) (sym same) h) in
+    subst (λ b. q < length (f b)) z (subst (λ t. t < length (f (a + 0))) (sym same) h) in
     slice_get-append_left (f a) (flat_map f (range_with_len (a + 1) n)) q within
-        ∙ (λ i. slice_get (f (sym z i)) (same i))
+    ∙ (λ i. slice_get (f (sym z i)) (same i))
 blocks_from f a (suc s) (suc n) r q l h e =
     let z : a + 1 + s ≡ a + suc s = omega arith in
     let rest = length (flat_map f (range_with_len (a + 1) s)) + r in
@@ -69,7 +69,7 @@ filled-more p zero = let a = multichoose-zero (p.kinds + 1) in let b = multichoo
 filled-more p (suc s) =
     let a : multichoose (p.kinds + 1) (suc s) ≡ multichoose (p.kinds + 1) s + multichoose p.kinds (suc s) =
     ap (λ k. multichoose k (suc s)) (add-one p.kinds) ∙ multichoose-more p.kinds s
-        ∙ ap (λ k. multichoose k s + multichoose p.kinds (suc s)) (sym (add-one p.kinds)) in
+    ∙ ap (λ k. multichoose k s + multichoose p.kinds (suc s)) (sym (add-one p.kinds)) in
     rw a (omega arith)
 
 filled-from : (p : Plan) (n s t : ℕ) → t ≡ s + n
@@ -119,10 +119,10 @@ below_small p before h l =
     let rises = multichoose_rises p.kinds before (p.bound - before) in
     let a = ap (λ n. multichoose n before) k in
     let b : multichoose (suc p.kinds) ((p.bound - before) + before) ≡ multichoose (p.kinds + 1) p.bound =
-        λ i. multichoose (sym k i) (d i) in
+    λ i. multichoose (sym k i) (d i) in
     let fits : multichoose (p.kinds + 1) before ≤ multichoose (p.kinds + 1) p.bound = omega (arith, rises, a, b) in
     let more = mul-le p.goals (multichoose (p.kinds + 1) before) p.goals (multichoose (p.kinds + 1) p.bound)
-        (omega arith) fits in
+    (omega arith) fits in
     let count = count-claims p in
     let most = h.most_claims in
     omega (arith, more, count, most)
@@ -131,12 +131,12 @@ below_small p before h l =
 pub claim_stands : (p : Plan) (size goal place number : ℕ) (xs : List ℕ) → size ≤ p.bound → goal < p.goals
     → slice_get (multisets p.kinds size) place ≡ Some xs
     → number ≡ length (flat_map (claims_of_size p) (range_with_len 0 size)) + (goal * multichoose p.kinds size + place)
-        → slice_get (claims p) number ≡ Some (goal, xs)
+    → slice_get (claims p) number ≡ Some (goal, xs)
 claim_stands p size goal place number xs l g e n =
     let within = slice_get_within (multisets p.kinds size) place xs e in
     let each = length-goal p size in
     let inner : place < length (of_goal p size goal) =
-        subst (λ k. place < k) (length-multisets p.kinds size ∙ sym (each goal)) within in
+    subst (λ k. place < k) (length-multisets p.kinds size ∙ sym (each goal)) within in
     let first = equal_blocks (of_goal p size) (multichoose p.kinds size) each 0 goal in
     let at = goal * multichoose p.kinds size + place in
     let in_size : slice_get (claims_of_size p size) at ≡ Some (goal, xs) =
@@ -145,7 +145,7 @@ claim_stands p size goal place number xs l g e n =
     ∙ slice_get-map (λ ys. (goal, ys)) (multisets p.kinds size) place ∙ ap (option_map (λ ys. (goal, ys))) e in
     ap (λ us. slice_get us number) (claims-flat_map p)
     ∙ block_at (claims_of_size p) size (p.bound + 1) at number (omega arith)
-        (slice_get_within (claims_of_size p size) at (goal, xs) in_size) n
+    (slice_get_within (claims_of_size p size) at (goal, xs) in_size) n
     ∙ in_size
 
 pub claims-formula : (p : Plan) → length (flat_map (claims_of_size p) (range_with_len 0 (p.bound + 1))) ≡ claim_count p
@@ -177,7 +177,7 @@ pub record IsSplit (p : Plan) (size number before each : ℕ) : Type 0 where
 pub IsSplit-from : (p : Plan) (size number before each : ℕ) → 1 ≤ p.kinds
     → before ≡ length (flat_map (claims_of_size p) (range_with_len 0 size)) → before ≤ number
     → number < length (flat_map (claims_of_size p) (range_with_len 0 (size + 1))) → each ≡ multichoose p.kinds size
-        → IsSplit p size number before each
+    → IsSplit p size number before each
 IsSplit-from p size number before each k b l h e =
     let some = multichoose_some p.kinds size k in
     let more = below-more p size in
@@ -197,16 +197,16 @@ IsSplit-from p size number before each k b l h e =
 pub number_stands : (p : Plan) (kinds goal before g each place : ℕ) (ops multi : List ℕ) → kinds ≡ p.kinds → ops ≡ multi
     → IsInPlan p goal multi → each ≡ multichoose kinds (length ops)
     → before ≡ length (flat_map (claims_of_size p) (range_with_len 0 (length ops))) → g ≡ goal
-        → slice_get (multisets kinds (length multi)) place ≡ Some multi
-        → slice_get (claims p) (before + g * each + place) ≡ Some (goal, multi)
+    → slice_get (multisets kinds (length multi)) place ≡ Some multi
+    → slice_get (claims p) (before + g * each + place) ≡ Some (goal, multi)
 number_stands p kinds goal before g each place ops multi k o h e b q there =
     let size = length multi in
     let product : g * each ≡ goal * multichoose p.kinds size =
-        λ i. q i * (e ∙ (λ j. multichoose (k j) (length (o j)))) i in
+    λ i. q i * (e ∙ (λ j. multichoose (k j) (length (o j)))) i in
     let start : before ≡ length (flat_map (claims_of_size p) (range_with_len 0 size)) =
-        b ∙ ap (λ (xs : List ℕ). length (flat_map (claims_of_size p) (range_with_len 0 (length xs)))) o in
+    b ∙ ap (λ (xs : List ℕ). length (flat_map (claims_of_size p) (range_with_len 0 (length xs)))) o in
     claim_stands p size goal place (before + g * each + place) multi h.size_within h.goal_below
-        (ap (λ n. slice_get (multisets n size) place) (sym k) ∙ there) (omega (arith, product, start))
+    (ap (λ n. slice_get (multisets n size) place) (sym k) ∙ there) (omega (arith, product, start))
 
 pub claim_fits : (p : Plan) (number : ℕ) (u : ℕ × List ℕ) → IsPlan p → slice_get (claims p) number ≡ Some u
     → number < 2 ^ 64
@@ -221,17 +221,17 @@ pub IsSplit-seen : (q p : Plan) (size number before each : ℕ) → q ≡ p → 
     → before ≡ length (flat_map (claims_of_size p) (range_with_len 0 size))
     → length (flat_map (claims_of_size p) (range_with_len 0 size)) ≤ number
     → number < length (flat_map (claims_of_size p) (range_with_len 0 (size + 1))) → each ≡ multichoose q.kinds size
-        → IsSplit p size number before each
+    → IsSplit p size number before each
 IsSplit-seen q p size number before each v h b l t e =
     IsSplit-from p size number before each (subst IsPlan v h).some_kinds b (omega (arith, b, l)) t
-        (e ∙ ap (λ (o : Plan). multichoose o.kinds size) v)
+    (e ∙ ap (λ (o : Plan). multichoose o.kinds size) v)
 
 pub split_stands : (q p : Plan) (size number before each : ℕ) (xs : List ℕ) → q ≡ p → IsSplit p size number before each
     → size ≤ p.bound → before ≡ length (flat_map (claims_of_size p) (range_with_len 0 size))
     → slice_get (multisets q.kinds size) ((number - before) % each) ≡ Some xs
-        → slice_get (claims p) number ≡ Some ((number - before) / each, xs)
+    → slice_get (claims p) number ≡ Some ((number - before) / each, xs)
 split_stands q p size number before each xs v h l b there =
     let rest = number - before in
     claim_stands p size (rest / each) (rest % each) number xs l h.goal
-        (ap (λ (o : Plan). slice_get (multisets o.kinds size) (rest % each)) (sym v) ∙ there)
+    (ap (λ (o : Plan). slice_get (multisets o.kinds size) (rest % each)) (sym v) ∙ there)
     (h.same ∙ ap (λ n. n + (rest / each * multichoose p.kinds size + rest % each)) b)

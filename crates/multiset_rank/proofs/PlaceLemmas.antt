@@ -13,7 +13,7 @@ use Rattle.std.proofs.lemmas.Bool.Decides.{nat_tests}
 use Rattle.multiset_rank.specs.Multisets.{multisets, never_falls, AreBelow}
 use Rattle.multiset_rank.specs.Rising.{multichoose, rising, padded}
 use Rattle.multiset_rank.proofs.CountLemmas.{multichoose-zero, multichoose_small}
-use Rattle.multiset_rank.proofs.HeldLemmas.{padded-push, take-padded}
+use Rattle.multiset_rank.proofs.PaddedLemmas.{padded-push, take-padded}
 use Rattle.multiset_rank.proofs.ListLemmas.{option_map-map}
 use Rattle.multiset_rank.proofs.RisingLemmas.{rising-zero, length-rising, is_below, multichoose-split, first_stands}
 use Rattle.multiset_rank.proofs.RisingLemmas.{later_stands, skipped_stands}
@@ -54,7 +54,7 @@ pub reached_place : (from kinds size number first rest block : ℕ) → IsReache
     ≡ option_map (λ xs. first ∷ xs) (slice_get (rising first (kinds - first) size) rest)
 reached_place from kinds size number first rest block h e l =
     h.same ∙ first_stands first kinds size rest (reached_below from kinds size number first rest h)
-        (omega (arith, e, l))
+    (omega (arith, e, l))
 
 -- the first numbers of the multiset are known, and the place of the others
 pub record IsUnranked (kinds size number place from rest : ℕ) (places : List ℕ) : Type 0 where
@@ -87,13 +87,13 @@ unranked_same : (places more : List ℕ) (place first : ℕ) (o r : Option (List
 unranked_same places more place first o r e h =
     ap (option_map (λ xs. take place places ++ xs)) h
     ∙ option_map-map (λ xs. take place places ++ xs) (λ xs. first ∷ xs) (λ xs. take (place + 1) more ++ xs)
-        (λ xs. sym (ap (λ ys. ys ++ xs) e ∙ append_assoc (take place places) (first ∷ []) xs)) o
+    (λ xs. sym (ap (λ ys. ys ++ xs) e ∙ append_assoc (take place places) (first ∷ []) xs)) o
 
 pub unranked_next : (kinds size number place from rest first inner : ℕ) (places : List ℕ)
     → IsUnranked kinds size number place from rest places → place < size → size ≤ 6
     → inner < multichoose (kinds - first) (size - place - 1)
     → slice_get (rising from (kinds - from) (size - place - 1 + 1)) rest
-        ≡ option_map (λ xs. first ∷ xs) (slice_get (rising first (kinds - first) (size - place - 1)) inner)
+    ≡ option_map (λ xs. first ∷ xs) (slice_get (rising first (kinds - first) (size - place - 1)) inner)
     → IsUnranked kinds size number (place + 1) first inner (set places place first)
 unranked_next kinds size number place from rest first inner places h l m w s =
     let a : size - (place + 1) ≡ size - place - 1 = omega arith in
@@ -102,19 +102,19 @@ unranked_next kinds size number place from rest first inner places h l m w s =
     let z = h.zeros in
     let f = h.full in
     let more : set places place first ≡ padded (done ++ first ∷ []) =
-        ap (λ ps. set ps place first) z ∙ padded-push done place first (sym f) (omega arith) in
+    ap (λ ps. set ps place first) z ∙ padded-push done place first (sym f) (omega arith) in
     let long : length (done ++ first ∷ []) ≡ place + 1 = omega (arith, f, length-append done (first ∷ [])) in
     let front : take (place + 1) (set places place first) ≡ done ++ first ∷ [] =
-        ap (take (place + 1)) more ∙ take-padded (done ++ first ∷ []) (place + 1) (sym long) in
+    ap (take (place + 1)) more ∙ take-padded (done ++ first ∷ []) (place + 1) (sym long) in
     record {
       within = subst (λ n. inner < multichoose (kinds - first) n) (sym a) w;
       same =
           h.same
           ∙ unranked_same places (set places place first) place first
-              (slice_get (rising first (kinds - first) (size - (place + 1))) inner)
-              (slice_get (rising from (kinds - from) (size - place)) rest) front
+          (slice_get (rising first (kinds - first) (size - (place + 1))) inner)
+          (slice_get (rising from (kinds - from) (size - place)) rest) front
           ((λ i. slice_get (rising from (kinds - from) (b i)) rest) ∙ s
-              ∙ sym (λ i. option_map (λ xs. first ∷ xs) (slice_get (rising first (kinds - first) (a i)) inner)));
+          ∙ sym (λ i. option_map (λ xs. first ∷ xs) (slice_get (rising first (kinds - first) (a i)) inner)));
       zeros = more ∙ sym (ap padded front);
       full = ap length front ∙ long;
     }
@@ -132,7 +132,7 @@ pub unranked_all : (kinds size number place from rest : ℕ) (places : List ℕ)
 unranked_all kinds size number place from rest places h e =
     ap (λ ts. slice_get ts number) (multisets_are_rising kinds size) ∙ h.same
     ∙ ap (option_map (λ xs. take place places ++ xs))
-        (none_left from (kinds - from) (size - place) rest (omega arith) h.within)
+    (none_left from (kinds - from) (size - place) rest (omega arith) h.within)
     ∙ ap Some (append-nil (take place places) ∙ ap (λ n. take n places) e)
 
 pub unranked_rises : (kinds size number : ℕ) (xs : List ℕ) → slice_get (multisets kinds size) number ≡ Some xs
@@ -192,7 +192,7 @@ ranked_next kinds number place from d skip ops h l e =
     let c = Climbs-at from kinds ops place d l h.climbs in
     let t : length ops - place ≡ size + 1 = omega arith in
     let f : skip + multichoose (kinds - first) (size + 1) ≡ multichoose (kinds - from) (size + 1) =
-        subst (λ n. skip + multichoose (kinds - first) n ≡ multichoose (kinds - from) n) t e in
+    subst (λ n. skip + multichoose (kinds - first) n ≡ multichoose (kinds - from) n) t e in
     let split = multichoose-split first kinds size c.1 in
     let g = ap (multichoose (kinds - from)) t in
     let s = h.small in
@@ -203,10 +203,10 @@ ranked_next kinds number place from d skip ops h l e =
           ap (slice_get (rising 0 kinds (length ops))) (add_assoc number skip r)
           ∙ h.there (skip + r) (omega (arith, w, split, f, g))
           ∙ unranked_same ops ops place first (slice_get (rising first (kinds - first) size) r)
-              (slice_get (rising from (kinds - from) (length ops - place)) (skip + r)) (take_more ops place d l)
+          (slice_get (rising from (kinds - from) (length ops - place)) (skip + r)) (take_more ops place d l)
           ((λ i. slice_get (rising from (kinds - from) (t i)) (skip + r))
-              ∙ skipped_stands from first kinds size skip (skip + r) r c.0 c.1 f refl
-              ∙ first_stands first kinds size r c.1 w);
+          ∙ skipped_stands from first kinds size skip (skip + r) r c.0 c.1 f refl
+          ∙ first_stands first kinds size r c.1 w);
     }
 
 pub ranked_all : (kinds number place from : ℕ) (ops : List ℕ) → IsRanked kinds number place from ops
@@ -214,10 +214,10 @@ pub ranked_all : (kinds number place from : ℕ) (ops : List ℕ) → IsRanked k
 ranked_all kinds number place from ops h e =
     let z : length ops - place ≡ 0 = omega arith in
     let one : multichoose (kinds - from) (length ops - place) ≡ 1 =
-        ap (multichoose (kinds - from)) z ∙ multichoose-zero (kinds - from) in
+    ap (multichoose (kinds - from)) z ∙ multichoose-zero (kinds - from) in
     let w : 0 < multichoose (kinds - from) (length ops - place) = omega (arith, one) in
     ap (λ ts. slice_get ts number) (multisets_are_rising kinds (length ops))
-        ∙ ap (slice_get (rising 0 kinds (length ops))) (sym (add-zero number)) ∙ h.there 0 w
+    ∙ ap (slice_get (rising 0 kinds (length ops))) (sym (add-zero number)) ∙ h.there 0 w
     ∙ ap (option_map (λ xs. take place ops ++ xs)) (none_left from (kinds - from) (length ops - place) 0 z w)
     ∙ ap Some (append-nil (take place ops) ∙ ap (λ n. take n ops) e ∙ take-length ops)
 

@@ -26,7 +26,7 @@ length-parts : (k n s a b : ℕ) → length (rising k (suc n) s) ≡ a → lengt
     → length (rising k (suc n) (suc s)) ≡ a + b
 length-parts k n s a b e g =
     ap length (rising-more k n s)
-        ∙ length-append (map (λ (xs : List ℕ). k ∷ xs) (rising k (suc n) s)) (rising (k + 1) n (suc s))
+    ∙ length-append (map (λ (xs : List ℕ). k ∷ xs) (rising k (suc n) s)) (rising (k + 1) n (suc s))
     ∙ (λ i. (length-map (rising k (suc n) s) (λ (xs : List ℕ). k ∷ xs) ∙ e) i + g i)
 
 pub length-rising : (k n s : ℕ) → length (rising k n s) ≡ multichoose n s
@@ -34,7 +34,7 @@ length-rising k n zero = ap length (rising-zero k n) ∙ sym (multichoose-zero n
 length-rising k zero (suc s) = ap length (rising-none k s) ∙ sym (multichoose-none s)
 length-rising k (suc n) (suc s) =
     length-parts k n s (multichoose (suc n) s) (multichoose n (suc s)) (length-rising k (suc n) s)
-        (length-rising (k + 1) n (suc s))
+    (length-rising (k + 1) n (suc s))
     ∙ sym (multichoose-more n s)
 
 length-begins : (k n s : ℕ) → length (map (λ (xs : List ℕ). k ∷ xs) (rising k n s)) ≡ multichoose n s
@@ -47,7 +47,7 @@ begins k n s r l =
     let e = length-begins k (suc n) s in
     ap (λ xs. slice_get xs r) (rising-more k n s)
     ∙ slice_get-append_left (map (λ (xs : List ℕ). k ∷ xs) (rising k (suc n) s)) (rising (k + 1) n (suc s)) r
-        (omega (arith, e))
+    (omega (arith, e))
     ∙ slice_get-map (λ (xs : List ℕ). k ∷ xs) (rising k (suc n) s) r
 
 -- and the others with a later number
@@ -57,7 +57,7 @@ goes_later k n s r q e =
     let l = length-begins k (suc n) s in
     ap (λ xs. slice_get xs q) (rising-more k n s)
     ∙ slice_get-append_right (map (λ (xs : List ℕ). k ∷ xs) (rising k (suc n) s)) (rising (k + 1) n (suc s)) r q
-        (omega (arith, e, l))
+    (omega (arith, e, l))
 
 -- with a number below m, by the places and numbers of the code
 pub is_below : (k m s r : ℕ) → r < multichoose (m - k) (s + 1) → k < m
@@ -129,7 +129,7 @@ skipped_stands k x m s d q r l h e g =
     let a : m - k ≡ (x - k) + (m - x) = omega arith in
     let b : k + (x - k) ≡ x = omega arith in
     let f : d + multichoose (m - x) (suc s) ≡ multichoose ((x - k) + (m - x)) (suc s) =
-        sym (λ i. d + multichoose (m - x) (add-one s i)) ∙ e ∙ (λ i. multichoose (a i) (add-one s i)) in
+    sym (λ i. d + multichoose (m - x) (add-one s i)) ∙ e ∙ (λ i. multichoose (a i) (add-one s i)) in
     (λ i. slice_get (rising k (a i) (add-one s i)) q) ∙ skip_by (x - k) k (m - x) s d q r f g
     ∙ (λ i. slice_get (rising (b i) (m - x) (sym (add-one s) i)) r)
 

@@ -9,7 +9,7 @@ use Rattle.std.proofs.lemmas.Bool.Decides.{nat_tests}
 use Rattle.std.proofs.lemmas.List.Elements.{filter-append, filter_agree, All-from_recursion, recursion_from_All}
 use Rattle.multiset_rank.specs.Multisets.{never_falls, tuples, multisets, AreBelow, AreMultisets, StandsAt}
 use Rattle.multiset_rank.specs.Rising.{rising}
-use Rattle.multiset_rank.proofs.HeldLemmas.{le_true, le_false}
+use Rattle.multiset_rank.proofs.PaddedLemmas.{le_true, le_false}
 use Rattle.multiset_rank.proofs.ListLemmas.{In, In-from_Contains, Contains-from_In, In-slice_get, In-map, In_of_map}
 use Rattle.multiset_rank.proofs.ListLemmas.{In-filter, In_of_filter, In-flat_map, In_of_flat_map, In-range, In_of_range}
 use Rattle.multiset_rank.proofs.ListLemmas.{IsOrdered, IsOrdered-filter, IsOrdered-map, IsOrdered-flat_map}
@@ -70,17 +70,19 @@ multisets-ordered m s =
 
 In_of_tuples : (m s : ℕ) (xs : List ℕ) → In (tuples m s) xs → (length xs ≡ s) × AllByRecursion (λ x. x < m) xs
 In_of_tuples m zero xs h =
-    elim (subst (λ ts. In ts xs) (tuples-zero m) h)
-    [ inl e ↦ subst (λ ys. (length ys ≡ 0) × AllByRecursion (λ x. x < m) ys) e
-    (refl, tt) | inr no_more ↦ absurd no_more ]
+    elim (subst (λ ts. In ts xs) (tuples-zero m) h) [
+      | inl e ↦ subst (λ ys. (length ys ≡ 0) × AllByRecursion (λ x. x < m) ys) e
+          (refl, tt)
+      | inr no_more ↦ absurd no_more
+    ]
 In_of_tuples m (suc s) xs h =
     let r = In_of_flat_map (λ x. map (λ ys. x ∷ ys) (tuples m s)) (range_with_len 0 m) xs
-        (subst (λ ts. In ts xs) (tuples-more m s) h) in
+    (subst (λ ts. In ts xs) (tuples-more m s) h) in
     let p = In_of_map (λ ys. r.0 ∷ ys) (tuples m s) xs r.2 in
     let known = In_of_tuples m s p.0 p.1 in
     let below = In_of_range 0 m r.0 r.1 in
     subst (λ ys. (length ys ≡ suc s) × AllByRecursion (λ x. x < m) ys) p.2
-        (ap suc known.0, (omega (arith, below.1), known.1))
+    (ap suc known.0, (omega (arith, below.1), known.1))
 
 In-tuples : (m s : ℕ) (xs : List ℕ) → length xs ≡ s → AllByRecursion (λ x. x < m) xs → In (tuples m s) xs
 In-tuples m zero [] e h = subst (λ ts. In ts []) (sym (tuples-zero m)) (inl refl)
@@ -89,7 +91,7 @@ In-tuples m (suc s) [] e h = absurd (omega (arith, e))
 In-tuples m (suc s) (x ∷ xs) e h =
     subst (λ ts. In ts (x ∷ xs)) (sym (tuples-more m s))
     (In-flat_map (λ y. map (λ ys. y ∷ ys) (tuples m s)) (range_with_len 0 m) x (x ∷ xs)
-        (In-range 0 m x (omega arith) (omega (arith, h.0)))
+    (In-range 0 m x (omega arith) (omega (arith, h.0)))
     (In-map (λ ys. x ∷ ys) (tuples m s) xs (In-tuples m s xs (omega (arith, e)) h.1)))
 
 pub In_of_multisets : (m s : ℕ) (xs : List ℕ) → In (multisets m s) xs
@@ -103,13 +105,15 @@ pub In-multisets : (m s : ℕ) (xs : List ℕ) → length xs ≡ s → AreBelow 
     → In (multisets m s) xs
 In-multisets m s xs e h t =
     subst (λ ts. In ts xs) (sym (multisets-filter m s))
-        (In-filter never_falls (tuples m s) xs (In-tuples m s xs e (recursion_from_All (λ x. x < m) xs h)) t)
+    (In-filter never_falls (tuples m s) xs (In-tuples m s xs e (recursion_from_All (λ x. x < m) xs h)) t)
 
 pub multisets_law : (m s : ℕ) → AreMultisets m s (multisets m s)
 multisets_law m s = record {
   rising = AllPairs-from_ordered Before (multisets m s) (multisets-ordered m s);
-  members = λ xs. (λ c. In_of_multisets m s xs (In-from_Contains (multisets m s) xs c),
-      λ h. Contains-from_In (multisets m s) xs (In-multisets m s xs h.0 h.1 h.2));
+  members = λ xs. (
+    λ c. In_of_multisets m s xs (In-from_Contains (multisets m s) xs c),
+    λ h. Contains-from_In (multisets m s) xs (In-multisets m s xs h.0 h.1 h.2),
+  );
 }
 
 pub stands_once : (m s place : ℕ) (xs : List ℕ) → slice_get (multisets m s) place ≡ Some xs
@@ -157,7 +161,7 @@ walk_above : (m s k n j : ℕ) → ((i r : ℕ) → i + r ≡ m → filter (foll
 walk_above m s k zero j h l e = sym (rising-none j s)
 walk_above m s k (suc n) j h l e =
     (λ i. (all_follow k j (tuples m s) l ∙ ap (map (λ xs. j ∷ xs)) (h j (suc n) e)) i ++ walk_above m s k n (j + 1) h
-        (omega arith) (omega (arith, e)) i)
+    (omega arith) (omega (arith, e)) i)
     ∙ sym (rising-more j n s)
 
 walk_below : (m s k r i n j : ℕ) → ((i r : ℕ) → i + r ≡ m → filter (follows i) (tuples m s) ≡ rising i r s) → k + r ≡ m
@@ -175,7 +179,7 @@ following : (s m k n : ℕ) → k + n ≡ m → filter (follows k) (tuples m s) 
 following zero m k n e = ap (filter (follows k)) (tuples-zero m) ∙ sym (rising-zero k n)
 following (suc s) m k n e =
     ap (filter (follows k)) (tuples-more m s)
-        ∙ filter-flat_map (follows k) (λ x. map (λ xs. x ∷ xs) (tuples m s)) (range_with_len 0 m)
+    ∙ filter-flat_map (follows k) (λ x. map (λ xs. x ∷ xs) (tuples m s)) (range_with_len 0 m)
     ∙ walk_below m s k n k m 0 (λ i r. following s m i r) e (omega arith) (zero-add m)
 
 pub follows-zero : (xs : List ℕ) → never_falls xs ≡ follows 0 xs

@@ -14,7 +14,7 @@ pub record Plan : Type 0 where
   pub kinds : ℕ
   pub bound : ℕ
 
--- the claims with so many operations: by goal, and then by multiset
+-- the claims with `size` operations: by goal, and then by multiset
 unfoldable pub claims_of_size : Plan → ℕ → List (ℕ × List ℕ)
 claims_of_size p size = flat_map (λ goal. map (λ xs. (goal, xs)) (multisets p.kinds size)) (range_with_len 0 p.goals)
 

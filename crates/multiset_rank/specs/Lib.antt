@@ -2,4 +2,4 @@ pub mod Binomial
 pub mod Multisets
 pub mod Claims
 pub mod Rising
-pub mod Held
+pub mod Padded

@@ -14,12 +14,12 @@ never_falls [] = true
 never_falls (x ∷ []) = true
 never_falls (x ∷ y ∷ ys) = nat_le x y && never_falls (y ∷ ys)
 
--- all lists of so many numbers below m, in lexicographic order
+-- all lists of `size` numbers below m, in lexicographic order
 unfoldable pub tuples : ℕ → ℕ → List (List ℕ)
 tuples m zero = [] ∷ []
 tuples m (suc size) = flat_map (λ x. map (λ xs. x ∷ xs) (tuples m size)) (range_with_len 0 m)
 
--- the multisets of so many numbers below m, in lexicographic order
+-- the multisets of `size` numbers below m, in lexicographic order
 unfoldable pub multisets : ℕ → ℕ → List (List ℕ)
 multisets m size = filter never_falls (tuples m size)
 
@@ -35,7 +35,7 @@ AreBelow m xs = All (λ x. x < m) xs
 abbrev pub IsLexicographic : List (List ℕ) → Type 0
 IsLexicographic list = AllPairs (λ xs ys. slice_cmp nat_cmp xs ys ≡ Less) list
 
--- the list rises strictly, and has exactly the never-falling lists of so many numbers below m
+-- the list rises strictly, and has exactly the never-falling lists of `size` numbers below m
 pub record AreMultisets (m size : ℕ) (list : List (List ℕ)) : Type 0 where
   pub rising : IsLexicographic list
   pub members : (xs : List ℕ) → Contains list xs ↔ ((length xs ≡ size) × AreBelow m xs × IsTrue (never_falls xs))

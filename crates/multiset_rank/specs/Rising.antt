@@ -2,11 +2,11 @@
 use Rattle.std.specs.Prelude.{ℕ, zero, suc, ◌+◌, ◌-◌, List, [], ◌∷◌, ◌++◌, length, map, replicate}
 use Rattle.multiset_rank.specs.Binomial.{choose}
 
--- in how many ways so many things are chosen among n kinds, each as often as one likes
+-- the number of multisets of a size of n kinds
 unfoldable pub multichoose : ℕ → ℕ → ℕ
 multichoose n size = choose (n + size - 1) size
 
--- the never-falling lists of so many numbers among the n numbers from k on, by the first number
+-- the never-falling lists of `size` numbers among the n numbers from k on, by the first number
 unfoldable pub rising : ℕ → ℕ → ℕ → List (List ℕ)
 rising k n zero = [] ∷ []
 rising k zero (suc size) = []

@@ -3,8 +3,8 @@
 ghost use Rattle.std.specs.Prelude.{◌≡◌, ◌+◌, ◌^◌, ◌<◌, ◌≤◌};
 ghost use Rattle.multiset_rank.specs.Rising.{multichoose};
 
-/// In how many ways `size` things are chosen among so many kinds, each as often as one likes. Each
-/// step from one size to the next is a product and an exact quotient.
+/// The number of multisets of `size` things of `kinds` kinds. Each step from one size to the next is
+/// a product and an exact quotient.
 pub fn multichoose(kinds: u32, size: u8) -> u64
     requires kinds { kinds ≤ 65 }
     requires size { size ≤ 6 }

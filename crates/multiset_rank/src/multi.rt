@@ -1,4 +1,5 @@
-//! Multisets of operations.
+//! Multisets of operations. The numbers never fall, and the places that they leave are 0, so that equal multisets
+//! are equal values.
 
 ghost use Rattle.std.specs.Prelude.{◌≡◌, ℕ, ◌+◌, ◌<◌, ◌≤◌, ◌↔◌, ◌⊎◌, length, take, false, IsTrue, IsNone, IfSome};
 ghost use Rattle.multiset_rank.specs.Multisets.{never_falls, IsMulti};
@@ -23,11 +24,11 @@ impl Model for Multi {
 
     ghost Value = { List ℕ };
 
-    ghost use Rattle.multiset_rank.specs.Held.{IsHeld, padded_again};
+    ghost use Rattle.multiset_rank.specs.Padded.{IsPadded, padded_again};
 
     ghost view = { λ m. take m.len m.places };
 
-    ghost invariant = { λ m. IsHeld m.len m.places };
+    ghost invariant = { λ m. IsPadded m.len m.places };
 
     ghost inverse = { λ xs. record { places = padded xs; len = length xs } };
 

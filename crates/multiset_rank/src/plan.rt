@@ -25,7 +25,7 @@ pub struct TooMany {
     pub claims: u64,
 }
 
-/// The claims of 1 to 256 goals and 1 to 64 operations, with at most so many operations each:
+/// The claims of 1 to 256 goals and 1 to 64 operations, with at most `bound` operations each:
 /// at most 2^20 claims. Contracts see it as these three numbers.
 #[derive(Clone, Copy, Debug, PartialEq, Eq)]
 pub struct ClaimPlan {

@@ -1,3 +1,5 @@
+//! Tests: places of multisets and numbers of claims, beside the plain list, and which multisets and plans there are.
+
 ghost use Rattle.std.specs.Prelude.{◌≡◌, ◌<◌, ◌≤◌, ◌↔◌, length, IsTrue};
 ghost use Rattle.multiset_rank.specs.Multisets.{multisets};
 ghost use Rattle.multiset_rank.specs.Claims.{claims};
@@ -49,17 +51,17 @@ fn counts_and_lists_multisets(rt: HostRuntime) -> Result<(), Fail> {
 }
 
 #[test]
-fn holds_at_most_six_numbers_that_never_fall(rt: HostRuntime) -> Result<(), Fail> {
-    let held = Multi::new([3, 5, 5].as_slice()).ok_or("never falls")?;
-    assert_eq!(rt; held.ops(), [3, 5, 5].as_slice());
+fn multisets_are_at_most_six_numbers_that_never_fall(rt: HostRuntime) -> Result<(), Fail> {
+    let three = Multi::new([3, 5, 5].as_slice()).ok_or("never falls")?;
+    assert_eq!(rt; three.ops(), [3, 5, 5].as_slice());
     assert!(rt; Multi::new([].as_slice()).is_some());
     assert!(rt; Multi::new([0, 1, 2, 3, 4, 65535].as_slice()).is_some());
     assert!(rt; Multi::new([0, 1, 2, 3, 4, 5, 6].as_slice()).is_none());
     assert!(rt; Multi::new([1, 0].as_slice()).is_none());
     assert!(rt; Multi::new([0, 4, 3].as_slice()).is_none());
     let shorter = Multi::new([3, 5].as_slice()).ok_or("never falls")?;
-    assert!(rt; is_same(&held, &held));
-    assert!(rt; !is_same(&held, &shorter));
+    assert!(rt; is_same(&three, &three));
+    assert!(rt; !is_same(&three, &shorter));
     Ok(())
 }
 

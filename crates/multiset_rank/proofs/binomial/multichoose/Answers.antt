@@ -8,7 +8,7 @@ loop-chosen-init c = sym (multichoose-zero c.args.kinds)
 pub overflow_mul-ways : goal.overflow_mul-ways
 overflow_mul-ways c =
     let small = small_ways c.args.kinds c.loop-chosen.chosen c.loop-chosen.ways c.loop-chosen.invariant c.requires.kinds
-        (omega arith) in
+    (omega arith) in
     let fits = product_fits c.loop-chosen.ways (c.from.result + c.from-in-loop-chosen.result) small (omega arith) in
     omega (arith, fits)
 

@@ -17,15 +17,15 @@ loop-place-init c =
 pub skipped-number-requires-clause-from : goal.skipped-number-requires-clause-from
 skipped-number-requires-clause-from c =
     rw c.from-op.ensures (ranked_from c.args.kinds c.loop-place.number c.loop-place.place c.loop-place.from 0
-        c.ops-ops.result.now c.loop-place.invariant c.loop-place-test.true).0
+    c.ops-ops.result.now c.loop-place.invariant c.loop-place-test.true).0
 
 pub overflow_add-number : goal.overflow_add-number
 overflow_add-number c =
     let most : length c.ops-ops.result.now ≤ 6 =
-        subst (λ (xs : List ℕ). length xs ≤ 6) (sym c.ops-ops.ensures.numbers) c.ops-ops.ensures.multi.0 in
+    subst (λ (xs : List ℕ). length xs ≤ 6) (sym c.ops-ops.ensures.numbers) c.ops-ops.ensures.multi.0 in
     let fits = ranked_fits c.args.kinds c.loop-place.number c.loop-place.place c.loop-place.from c.skipped-number.result
-        (multichoose (c.args.kinds - c.from-op.result) (length c.ops-ops.result.now - c.loop-place.place))
-        c.ops-ops.result.now
+    (multichoose (c.args.kinds - c.from-op.result) (length c.ops-ops.result.now - c.loop-place.place))
+    c.ops-ops.result.now
     c.loop-place.invariant c.requires.most most c.skipped-number.ensures in
     omega (arith, fits)
 
@@ -34,20 +34,20 @@ loop-place-preserved c =
     let e = c.from-op.ensures in
     let ops = c.ops-ops.result.now in
     let skip = subst (λ x. c.skipped-number.result + multichoose (c.args.kinds - x) (length ops - c.loop-place.place)
-        ≡ multichoose (c.args.kinds - c.loop-place.from) (length ops - c.loop-place.place)) e c.skipped-number.ensures
-        in
+    ≡ multichoose (c.args.kinds - c.loop-place.from) (length ops - c.loop-place.place)) e c.skipped-number.ensures
+    in
     subst (λ x. IsRanked c.args.kinds (c.loop-place.number + c.skipped-number.result) (c.loop-place.place + 1) x ops)
-        (sym e)
+    (sym e)
     (ranked_next c.args.kinds c.loop-place.number c.loop-place.place c.loop-place.from 0 c.skipped-number.result ops
-        c.loop-place.invariant c.loop-place-test.true skip)
+    c.loop-place.invariant c.loop-place-test.true skip)
 
 there : (c : goal.After-loop-place) → slice_get (multisets c.args.kinds (length c.args.multi.now)) c.loop-place.number
     ≡ Some c.args.multi.now
 there c =
     subst (λ (xs : List ℕ). slice_get (multisets c.args.kinds (length xs)) c.loop-place.number
-        ≡ Some xs) c.ops-ops.ensures.numbers
+    ≡ Some xs) c.ops-ops.ensures.numbers
     (ranked_all c.args.kinds c.loop-place.number c.loop-place.place c.loop-place.from c.ops-ops.result.now
-        c.loop-place.invariant (omega arith))
+    c.loop-place.invariant (omega arith))
 
 pub returns-clause-place : goal.returns-clause-place
 returns-clause-place c =

@@ -13,21 +13,21 @@ loop-place-preserved c =
     let inner = c.first_number-first.result.1 in
     rw c.from.ensures
     (unranked_next c.args.kinds c.args.size c.args.number c.loop-place.place c.loop-place.from c.loop-place.inner first
-        inner c.loop-place.places
+    inner c.loop-place.places
     c.loop-place.invariant c.loop-place-test.true c.requires.size c.first_number-first.ensures.rest
-        c.first_number-first.ensures.place)
+    c.first_number-first.ensures.place)
 
 pub of_places-requires-clause-order : goal.of_places-requires-clause-order
 of_places-requires-clause-order c =
     unranked_rises c.args.kinds c.args.size c.args.number (take c.args.size c.loop-place.places)
     (unranked_all c.args.kinds c.args.size c.args.number c.loop-place.place c.loop-place.from c.loop-place.inner
-        c.loop-place.places c.loop-place.invariant (omega arith))
+    c.loop-place.places c.loop-place.invariant (omega arith))
 
 there : (c : goal.After-of_places) → slice_get (multisets c.args.kinds c.args.size) c.args.number
     ≡ Some c.of_places.result
 there c =
     unranked_all c.args.kinds c.args.size c.args.number c.loop-place.place c.loop-place.from c.loop-place.inner
-        c.loop-place.places c.loop-place.invariant (omega arith)
+    c.loop-place.places c.loop-place.invariant (omega arith)
     ∙ ap Some (sym c.of_places.ensures)
 
 pub returns-clause-place : goal.returns-clause-place

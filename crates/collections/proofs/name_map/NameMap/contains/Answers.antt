@@ -8,5 +8,5 @@ returns g c =
     let decides = Decides-found c.self.inside.entries.entries c.args.name.now in
     let told = c.contains_key.ensures in
     subst (λ (ps : List (List ℕ × g.row.T.Denot)). IsTrue c.contains_key.result ↔ Contains (names ps) c.args.name.now)
-        c.self.view_is
+    c.self.view_is
     (λ t. decides.0 (sym told ∙ t), λ w. told ∙ decides.1 w)

@@ -7,6 +7,6 @@ use Rattle.collections.proofs.name_map.NameMap.insert.Goals as goal
 pub returns-clause-ok : goal.returns-clause-ok
 returns-clause-ok g c =
     let new = subst (λ (ps : List (List ℕ × g.row.T.Denot)). ¬ (Contains (names ps) (string_bytes c.args.name)))
-        (sym c.self.view_is) c.requires in
+    (sym c.self.view_is) c.requires in
     ap pairs c.in_ok-insert.ensures.entries ∙ pairs-insert c.self.inside.entries c.args.name c.args.value new
-        ∙ ap (λ ps. ps ++ (string_bytes c.args.name, c.args.value) ∷ []) c.self.view_is
+    ∙ ap (λ ps. ps ++ (string_bytes c.args.name, c.args.value) ∷ []) c.self.view_is

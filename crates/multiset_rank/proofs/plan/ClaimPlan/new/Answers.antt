@@ -12,7 +12,7 @@ count goals kinds bound n w e g =
 pub returns-then-claims-gt-MOST_CLAIMS-clause-too_many : goal.returns-then-claims-gt-MOST_CLAIMS-clause-too_many
 returns-then-claims-gt-MOST_CLAIMS-clause-too_many c =
     let same = count c.args.goals c.args.kinds c.args.bound c.from.result c.multichoose.result c.from.ensures
-        c.multichoose.ensures.value in
+    c.multichoose.ensures.value in
     (λ t. omega (arith, same), λ l. refl)
 
 pub returns-then-claims-gt-MOST_CLAIMS-clause-claims : goal.returns-then-claims-gt-MOST_CLAIMS-clause-claims
@@ -23,7 +23,7 @@ returns-then-claims-gt-MOST_CLAIMS-clause-claims c =
 pub invariant_of-result : goal.invariant_of-result
 invariant_of-result c =
     let same = count c.args.goals c.args.kinds c.args.bound c.from.result c.multichoose.result c.from.ensures
-        c.multichoose.ensures.value in
+    c.multichoose.ensures.value in
     record {
       some_goals = c.requires.some_goals;
       most_goals = c.requires.most_goals;
@@ -36,5 +36,5 @@ invariant_of-result c =
 pub returns-clause-too_many : goal.returns-clause-too_many
 returns-clause-too_many c =
     let same = count c.args.goals c.args.kinds c.args.bound c.from.result c.multichoose.result c.from.ensures
-        c.multichoose.ensures.value in
+    c.multichoose.ensures.value in
     (λ t. absurd (cc), λ l. absurd (omega (arith, same, l)))

@@ -11,15 +11,15 @@ there : (c : goal.After-rank)
     ≡ Some (c.args.goal, c.args.multi.now)
 there c =
     number_stands c.args.self.now c.self.inside.kinds c.args.goal c.claims_below.result c.from.result
-        c.multichoose-multisets.result c.rank.result c.ops.result.now c.args.multi.now
+    c.multichoose-multisets.result c.rank.result c.ops.result.now c.args.multi.now
     (ap (λ (q : Plan). q.kinds) c.self.view_is) c.ops.ensures.numbers c.requires.in_plan
-        c.multichoose-multisets.ensures.value c.claims_below.ensures.value c.from.ensures c.rank.ensures.place.there
+    c.multichoose-multisets.ensures.value c.claims_below.ensures.value c.from.ensures c.rank.ensures.place.there
 
 pub overflow_add-result-2 : goal.overflow_add-result-2
 overflow_add-result-2 c =
     let fits = claim_fits c.args.self.now
-        (c.claims_below.result + c.from.result * c.multichoose-multisets.result + c.rank.result)
-        (c.args.goal, c.args.multi.now) (subst IsPlan c.self.view_is c.self.invariant) (there c) in
+    (c.claims_below.result + c.from.result * c.multichoose-multisets.result + c.rank.result)
+    (c.args.goal, c.args.multi.now) (subst IsPlan c.self.view_is c.self.invariant) (there c) in
     omega (arith, fits)
 
 pub returns-clause-place : goal.returns-clause-place

@@ -8,5 +8,5 @@ pub returns-clause-to : goal.returns-clause-to
 returns-clause-to c =
     let p = c.args.self.now in
     subst (λ n. c.args.number < n)
-        (length-claims p ∙ ap (λ b. length (flat_map (claims_of_size p) (range_with_len 0 (b + 1))))
-        (sym (ap (λ (q : Plan). q.bound) c.self.view_is))) c.requires
+    (length-claims p ∙ ap (λ b. length (flat_map (claims_of_size p) (range_with_len 0 (b + 1))))
+    (sym (ap (λ (q : Plan). q.bound) c.self.view_is))) c.requires

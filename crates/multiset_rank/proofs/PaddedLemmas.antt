@@ -46,7 +46,7 @@ padded-push xs i x e l =
     let a : 6 - length xs ≡ suc (5 - length xs) = omega arith in
     let b : 6 - length (xs ++ x ∷ []) ≡ 5 - length xs = omega (arith, length-append xs (x ∷ [])) in
     (λ j. set (xs ++ replicate (a j) 0) (e j) x) ∙ set_next xs (5 - length xs) x
-        ∙ sym (λ j. (xs ++ x ∷ []) ++ replicate (b j) 0)
+    ∙ sym (λ j. (xs ++ x ∷ []) ++ replicate (b j) 0)
 
 pub take-padded : (xs : List ℕ) (i : ℕ) → i ≡ length xs → take i (padded xs) ≡ xs
 take-padded xs i e = take_at xs (replicate (6 - length xs) 0) i (sym e)

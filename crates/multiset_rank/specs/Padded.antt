@@ -6,13 +6,13 @@ use Rattle.multiset_rank.specs.Multisets.{never_falls}
 use Rattle.multiset_rank.specs.Rising.{padded}
 
 -- there are at most six numbers, which never fall, and 0 in the places that they leave
-pub record IsHeld (len : ℕ) (places : List ℕ) : Type 0 where
+pub record IsPadded (len : ℕ) (places : List ℕ) : Type 0 where
   pub most : len ≤ 6
   pub rest : places ≡ padded (take len places)
   pub full : length (take len places) ≡ len
   pub order : IsTrue (never_falls (take len places))
 
 -- the fields are those that their list gives
-pub padded_again : (m : Inside) → IsHeld m.len m.places
+pub padded_again : (m : Inside) → IsPadded m.len m.places
     → (record { places = padded (take m.len m.places); len = length (take m.len m.places) }) ≡ m
 padded_again m h = λ i. record { places = sym h.rest i; len = h.full i }
