@@ -11,7 +11,7 @@ use Rattle.bv_terms.specs.declared.value.Sort.TheVariants as sort
 use Rattle.bv_terms.specs.declared.value.Value.{Value}
 use Rattle.bv_terms.specs.declared.value.Value.TheVariants as val
 use Rattle.bv_terms.specs.Sorts.{HasSort, HaveSorts, width_of}
-use Rattle.plain_search.specs.Cases.{value_numbered, inputs_numbered, number_of, inputs_number, input_at}
+use Rattle.plain_search.specs.Cases.{value_numbered, inputs_numbered, value_number, inputs_number, input_at}
 use Rattle.plain_search.proofs.ListLemmas.{In}
 use Rattle.plain_search.proofs.ReadLemmas.{get_or-input_at}
 
@@ -28,21 +28,21 @@ HaveSorts-numbered (s ∷ ss) n h =
 
 -- ---- the number of inputs
 
-number_of_lt : (s : Sort) (v : Value) → HasSort s v → number_of v < 2 ^ width_of s
-number_of_lt sort.Bool (val.Bool true) h = omega arith
-number_of_lt sort.Bool (val.Bool false) h = omega arith
-number_of_lt sort.Bool (val.Bits w n) h = absurd h
-number_of_lt (sort.Bits w) (val.Bits v n) h = h.1
-number_of_lt (sort.Bits w) (val.Bool b) h = absurd h
-number_of_lt sort.Mem v h = absurd h
+value_number_lt : (s : Sort) (v : Value) → HasSort s v → value_number v < 2 ^ width_of s
+value_number_lt sort.Bool (val.Bool true) h = omega arith
+value_number_lt sort.Bool (val.Bool false) h = omega arith
+value_number_lt sort.Bool (val.Bits w n) h = absurd h
+value_number_lt (sort.Bits w) (val.Bits v n) h = h.1
+value_number_lt (sort.Bits w) (val.Bool b) h = absurd h
+value_number_lt sort.Mem v h = absurd h
 
-value_numbered-number_of : (s : Sort) (v : Value) → HasSort s v → value_numbered s (number_of v) ≡ v
-value_numbered-number_of sort.Bool (val.Bool true) h = refl
-value_numbered-number_of sort.Bool (val.Bool false) h = refl
-value_numbered-number_of sort.Bool (val.Bits w n) h = absurd h
-value_numbered-number_of (sort.Bits w) (val.Bits v n) h = ap (λ u. val.Bits u n) (sym h.0)
-value_numbered-number_of (sort.Bits w) (val.Bool b) h = absurd h
-value_numbered-number_of sort.Mem v h = absurd h
+value_numbered-value_number : (s : Sort) (v : Value) → HasSort s v → value_numbered s (value_number v) ≡ v
+value_numbered-value_number sort.Bool (val.Bool true) h = refl
+value_numbered-value_number sort.Bool (val.Bool false) h = refl
+value_numbered-value_number sort.Bool (val.Bits w n) h = absurd h
+value_numbered-value_number (sort.Bits w) (val.Bits v n) h = ap (λ u. val.Bits u n) (sym h.0)
+value_numbered-value_number (sort.Bits w) (val.Bool b) h = absurd h
+value_numbered-value_number sort.Mem v h = absurd h
 
 pub inputs_number_lt : (ss : List Sort) (vs : List Value) → HaveSorts ss vs
     → inputs_number ss vs < 2 ^ sum_by width_of ss
@@ -54,8 +54,8 @@ inputs_number_lt (s ∷ ss) (v ∷ vs) h =
     let rest = inputs_number ss vs in
     let size : 2 ^ sum_by width_of (s ∷ ss) ≡ w * 2 ^ sum_by width_of ss =
     ap (λ k. 2 ^ k) (sum_by-cons width_of s ss) ∙ pow-add 2 (width_of s) (sum_by width_of ss) in
-    subst (λ m. rest * w + number_of v < m) (sym size)
-    (mul-add-lt rest w (number_of v) (2 ^ sum_by width_of ss) (inputs_number_lt ss vs h.1) (number_of_lt s v h.0))
+    subst (λ m. rest * w + value_number v < m) (sym size)
+    (mul-add-lt rest w (value_number v) (2 ^ sum_by width_of ss) (inputs_number_lt ss vs h.1) (value_number_lt s v h.0))
 
 -- the number of inputs leads back to them
 pub inputs_numbered-number : (ss : List Sort) (vs : List Value) → HaveSorts ss vs
@@ -65,11 +65,11 @@ inputs_numbered-number [] (v ∷ vs) h = absurd h
 inputs_numbered-number (s ∷ ss) [] h = absurd h
 inputs_numbered-number (s ∷ ss) (v ∷ vs) h =
     let w : ℕ = 2 ^ width_of s in
-    let d : ℕ = number_of v in
+    let d : ℕ = value_number v in
     let rest : ℕ = inputs_number ss vs in
-    let below : d < w = number_of_lt s v h.0 in
+    let below : d < w = value_number_lt s v h.0 in
     let first : value_numbered s ((rest * w + d) % w) ≡ v =
-    ap (value_numbered s) (mod-mul-add rest w d below) ∙ value_numbered-number_of s v h.0 in
+    ap (value_numbered s) (mod-mul-add rest w d below) ∙ value_numbered-value_number s v h.0 in
     let others : inputs_numbered ss ((rest * w + d) / w) ≡ vs =
     ap (inputs_numbered ss) (div-mul-add rest w d below) ∙ inputs_numbered-number ss vs h.1 in
     λ i. first i ∷ others i
@@ -124,7 +124,7 @@ number_from-end ss vs ks k e =
 
 pub number_from-more : (ss : List Sort) (vs : List Value) (ks : List ℕ) (k : ℕ) (s : Sort) → k < length ss
     → k < length ks
-    → number_from k ss vs ks ≡ number_from (k + 1) ss vs ks * 2 ^ width_of (get_or ss k s) + number_of
+    → number_from k ss vs ks ≡ number_from (k + 1) ss vs ks * 2 ^ width_of (get_or ss k s) + value_number
     (input_at vs (get_or ks k 0))
 number_from-more ss vs ks k s l m =
     (λ i. inputs_number (drop_more ss k s l i) (map (input_at vs) (drop_more ks k 0 m i)))
@@ -159,7 +159,7 @@ pub record IsDigit (ss : List Sort) (vs : List Value) (ks : List ℕ) (k number 
   pub within : k ≤ length ks
   pub so_far : number ≡ number_from k ss vs ks
   pub place : from ≡ get_or ks (k - 1) 0
-  pub read : digit ≡ number_of (get_or vs from d)
+  pub read : digit ≡ value_number (get_or vs from d)
   pub wide : width ≡ width_of (get_or ss (k - 1) s)
 
 pub number_step : (ss : List Sort) (vs : List Value) (ks : List ℕ) (k number from digit width : ℕ) (s : Sort)
@@ -177,7 +177,7 @@ number_step ss vs ks k number from digit width s d h inside e =
     let value : get_or vs from d ≡ input_at vs (get_or ks j 0) =
     ap (λ i. get_or vs i d) e.place ∙ get_or-input_at vs (get_or ks j 0) d (inside j 0 l) in
     let high : number ≡ number_from (j + 1) ss vs ks = e.so_far ∙ ap (λ i. number_from i ss vs ks) (sym next) in
-    (λ i. high i * 2 ^ e.wide i + (e.read ∙ ap number_of value) i) ∙ sym (number_from-more ss vs ks j s m l)
+    (λ i. high i * 2 ^ e.wide i + (e.read ∙ ap value_number value) i) ∙ sym (number_from-more ss vs ks j s m l)
 
 pub number_step-fits : (ss : List Sort) (vs : List Value) (ks : List ℕ) (k number from digit width : ℕ) (s : Sort)
     (d : Value)

@@ -17,7 +17,7 @@ use Rattle.bv_terms.specs.Subterm.{AreSubterms, IsTopological}
 use Rattle.bv_terms.specs.Eval.{IsValued}
 use Rattle.bv_terms.proofs.SubtermLemmas.{AreSubterms-fit}
 use Rattle.plain_search.specs.declared.cases.Case.{Case}
-use Rattle.plain_search.specs.Cases.{same_value, input_at, inputs_number, inputs_numbered, table_of, table_agrees}
+use Rattle.plain_search.specs.Cases.{same_value, input_at, inputs_number, inputs_numbered, truth_table, table_agrees}
 use Rattle.plain_search.specs.Cases.{term_agrees}
 use Rattle.plain_search.specs.Results.{AreNodesOf}
 use Rattle.plain_search.proofs.ReadLemmas.{get_or-input_at}
@@ -55,33 +55,33 @@ value_stands table nodes at inputs room d h all =
 
 -- ---- tables
 
-pub length-table_of : (ss : List Sort) (t : Term) → length (table_of ss t) ≡ 2 ^ sum_by width_of ss
-length-table_of ss t = length-map-range_with_len (λ n. value (inputs_numbered ss n) t) 0 (2 ^ sum_by width_of ss)
+pub length-truth_table : (ss : List Sort) (t : Term) → length (truth_table ss t) ≡ 2 ^ sum_by width_of ss
+length-truth_table ss t = length-map-range_with_len (λ n. value (inputs_numbered ss n) t) 0 (2 ^ sum_by width_of ss)
 
-value-table_of : (ss : List Sort) (t : Term) (vs : List Value) → HaveSorts ss vs
-    → input_at (table_of ss t) (inputs_number ss vs) ≡ value vs t
-value-table_of ss t vs h =
+value-truth_table : (ss : List Sort) (t : Term) (vs : List Value) → HaveSorts ss vs
+    → input_at (truth_table ss t) (inputs_number ss vs) ≡ value vs t
+value-truth_table ss t vs h =
     let n = inputs_number ss vs in
-    unwrap_or-slice_get (table_of ss t) n (val.Bool false)
+    unwrap_or-slice_get (truth_table ss t) n (val.Bool false)
     ∙ get_or-map-range_with_len (λ k. value (inputs_numbered ss k) t) 0 (2 ^ sum_by width_of ss) n n (val.Bool false)
     (inputs_number_lt ss vs h) (omega arith)
     ∙ ap (λ us. value us t) (inputs_numbered-number ss vs h)
 
 table_agrees-term : (ss : List Sort) (t : Term) (ks : List ℕ) (cases : List Case)
     → All (λ (c : Case). HaveSorts ss (map (input_at c.inputs.values) ks)) cases
-    → table_agrees cases (table_of ss t) ss ks ≡ term_agrees cases t ks
+    → table_agrees cases (truth_table ss t) ss ks ≡ term_agrees cases t ks
 table_agrees-term ss t ks [] h = refl
 table_agrees-term ss t ks (c ∷ cs) h =
     let Fits : Case → Type 0 = λ c. HaveSorts ss (map (input_at c.inputs.values) ks) in
     let first =
     ap (λ v. same_value v c.result)
-    (value-table_of ss t (map (input_at c.inputs.values) ks) (All-head Fits c cs h)) in
+    (value-truth_table ss t (map (input_at c.inputs.values) ks) (All-head Fits c cs h)) in
     let rest = table_agrees-term ss t ks cs (All-tail Fits c cs h) in
     λ i. first i && rest i
 
 -- where the table is that of the term
 pub table_agrees-is : (ss : List Sort) (t : Term) (ks : List ℕ) (cases : List Case) (table : List Value) (agrees : Bool)
-    → table ≡ table_of ss t → All (λ (c : Case). HaveSorts ss (map (input_at c.inputs.values) ks)) cases
+    → table ≡ truth_table ss t → All (λ (c : Case). HaveSorts ss (map (input_at c.inputs.values) ks)) cases
     → agrees ≡ table_agrees cases table ss ks → agrees ≡ term_agrees cases t ks
 table_agrees-is ss t ks cases table agrees is h e =
     e ∙ ap (λ xs. table_agrees cases xs ss ks) is ∙ table_agrees-term ss t ks cases h

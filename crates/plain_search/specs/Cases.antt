@@ -22,14 +22,14 @@ inputs_numbered [] n = []
 inputs_numbered (s ∷ ss) n = value_numbered s (n % 2 ^ width_of s) ∷ inputs_numbered ss (n / 2 ^ width_of s)
 
 -- the number of a value among those of its sort
-abbrev pub number_of : Value → ℕ
-number_of (val.Bool true) = 1
-number_of (val.Bool false) = 0
-number_of (val.Bits w n) = n
+abbrev pub value_number : Value → ℕ
+value_number (val.Bool true) = 1
+value_number (val.Bool false) = 0
+value_number (val.Bits w n) = n
 
 -- the number of inputs of these sorts
 abbrev pub inputs_number : List Sort → List Value → ℕ
-inputs_number (s ∷ ss) (v ∷ vs) = inputs_number ss vs * 2 ^ width_of s + number_of v
+inputs_number (s ∷ ss) (v ∷ vs) = inputs_number ss vs * 2 ^ width_of s + value_number v
 inputs_number _ _ = 0
 
 -- the inputs under a number, and a term's value there
@@ -61,8 +61,8 @@ term_agrees cases t ks =
     list_all (λ (c : Case). same_value (value (map (input_at c.inputs.values) ks) t) c.result) cases
 
 -- a term's values at all inputs of these sorts, by the inputs' numbers
-abbrev pub table_of : List Sort → Term → List Value
-table_of ss t = map (λ n. value (inputs_numbered ss n) t) (range_with_len 0 (2 ^ sum_by width_of ss))
+abbrev pub truth_table : List Sort → Term → List Value
+truth_table ss t = map (λ n. value (inputs_numbered ss n) t) (range_with_len 0 (2 ^ sum_by width_of ss))
 
 -- whether what the table has for the inputs in those places is the goal's result in each case
 abbrev pub table_agrees : List Case → List Value → List Sort → List ℕ → Bool

@@ -8,7 +8,7 @@ use Rattle.bv_terms.specs.Table.{Table, term_at}
 use Rattle.bv_terms.specs.Subterm.{IsTopological}
 use Rattle.plain_search.specs.declared.results.Evaluator.{Evaluator}
 use Rattle.plain_search.specs.declared.results.Evaluator.TheVariants as evaluator
-use Rattle.plain_search.specs.Cases.{table_of}
+use Rattle.plain_search.specs.Cases.{truth_table}
 
 -- nodes along which a node's term is evaluated: itself and those of its subterms, each after its arguments
 pub record AreNodesOf (table : Table) (at : TermId) (nodes : List TermId) : Type 0 where
@@ -20,5 +20,6 @@ pub record AreNodesOf (table : Table) (at : TermId) (nodes : List TermId) : Type
 
 -- the values of a node's term at all inputs of these sorts, of few bits, or the nodes of its subterms
 abbrev pub IsEvaluator : Table → List Sort → TermId → Evaluator → Type 0
-IsEvaluator table ss at (evaluator.Table values) = (sum_by width_of ss ≤ 16) × (values ≡ table_of ss (term_at table at))
+IsEvaluator table ss at (evaluator.Table values) =
+    (sum_by width_of ss ≤ 16) × (values ≡ truth_table ss (term_at table at))
 IsEvaluator table ss at (evaluator.Nodes nodes) = AreNodesOf table at nodes

@@ -3,7 +3,7 @@
 
 ghost use Rattle.std.specs.Prelude.{◌≡◌, ◌↔◌, ◌+◌, ◌*◌, ◌<◌, ◌≤◌, ◌^◌, length, map, sum_by, IfOk, All, IsTrue};
 ghost use Rattle.bv_terms.specs.Sorts.{width_of, HaveSorts};
-ghost use Rattle.plain_search.specs.Cases.{value_numbered, inputs_numbered, number_of, inputs_number, input_at};
+ghost use Rattle.plain_search.specs.Cases.{value_numbered, inputs_numbered, value_number, inputs_number, input_at};
 
 use bv_terms::{Env, Sort, Value};
 use collections::Seq;
@@ -67,8 +67,8 @@ pub fn inputs_of(alloc: Global, sorts: &[Sort], number: u64) -> Result<Env, Allo
 }
 
 /// The number of a value among those of its sort.
-fn number_of(value: Value) -> u64
-    ensures { result ≡ number_of value }
+fn value_number(value: Value) -> u64
+    ensures { result ≡ value_number value }
 {
     match value {
         Value::Bool(true) => 1,
@@ -96,7 +96,7 @@ pub fn number_at(sorts: &[Sort], inputs: &[Value], places: &[u8]) -> u64
 {
     let mut number = 0;
     for k in (0..places.len()).rev() {
-        let digit = number_of(inputs[usize::from(places[k])]);
+        let digit = value_number(inputs[usize::from(places[k])]);
         number = with_digit(number, sorts[k].width(), digit);
     }
     number

@@ -5,7 +5,7 @@ ghost use Rattle.std.specs.Prelude.{◌≡◌, ℕ, ◌<◌, ◌≤◌, ◌^◌,
 ghost use Rattle.bv_terms.specs.Sorts.{InputsFit, HaveSorts, width_of};
 ghost use Rattle.bv_terms.specs.Term.{value};
 ghost use Rattle.bv_terms.specs.Table.{term_at};
-ghost use Rattle.plain_search.specs.Cases.{inputs_numbered, input_at, table_of, term_agrees, table_agrees};
+ghost use Rattle.plain_search.specs.Cases.{inputs_numbered, input_at, truth_table, term_agrees, table_agrees};
 ghost use Rattle.plain_search.specs.Results.{AreNodesOf, IsEvaluator};
 
 use crate::cases::{Case, is_same};
@@ -50,7 +50,7 @@ pub fn value_along(
 }
 
 /// The values of a term at all inputs of these sorts, by the inputs' numbers.
-fn table_of(
+fn truth_table(
     alloc: Global,
     terms: &Terms,
     sorts: &[Sort],
@@ -61,7 +61,7 @@ fn table_of(
     requires few { sum_by width_of sorts.now ≤ 16 }
     requires inputs { (n : ℕ) → InputsFit (inputs_numbered sorts.now n) (term_at terms.now at) }
     requires room { length terms.now.nodes ≤ length room.old }
-    ensures { IfOk result (λ table. table ≡ table_of sorts.now (term_at terms.now at)) }
+    ensures { IfOk result (λ table. table ≡ truth_table sorts.now (term_at terms.now at)) }
 {
     let nodes = nodes_of(alloc, terms, at)?;
     let mut table = Seq::new(alloc);
@@ -73,7 +73,7 @@ fn table_of(
     Ok(table)
 }
 
-/// How the result of an operation over arguments of these sorts is found.
+/// What gives the result of an operation over arguments of these sorts.
 pub fn evaluator_for(
     alloc: Global,
     terms: &Terms,
@@ -90,7 +90,7 @@ pub fn evaluator_for(
         let nodes = nodes_of(alloc, terms, at)?;
         return Ok(Evaluator::Nodes(Seq::from_vec(nodes)));
     }
-    Ok(Evaluator::Table(table_of(alloc, terms, sorts, at, room)?))
+    Ok(Evaluator::Table(truth_table(alloc, terms, sorts, at, room)?))
 }
 
 /// Whether what a table has for the inputs in these places is the goal's result in each case.

@@ -9,13 +9,13 @@ use Rattle.plain_search.proofs.inputs.number_at.Goals as goal
 
 abbrev digit : (c : goal.After-width)
     → IsDigit c.args.sorts.now c.args.inputs.now c.args.places.now c.loop-k.k c.loop-k.number c.from.result
-    c.number_of-digit.result c.width.result sort.Bool (val.Bool false)
+    c.value_number-digit.result c.width.result sort.Bool (val.Bool false)
 digit c = record {
   some = c.loop-k-test.true;
   within = c.loop-k.auto.k;
   so_far = c.loop-k.invariant;
   place = c.from.ensures;
-  read = c.number_of-digit.ensures;
+  read = c.value_number-digit.ensures;
   wide = c.width.ensures;
 }
 
@@ -41,21 +41,21 @@ with_digit-number-requires-clause-width c =
 pub with_digit-number-requires-clause-fits : goal.with_digit-number-requires-clause-fits
 with_digit-number-requires-clause-fits c =
     number_step-fits c.args.sorts.now c.args.inputs.now c.args.places.now c.loop-k.k c.loop-k.number c.from.result
-    c.number_of-digit.result c.width.result _ _
+    c.value_number-digit.result c.width.result _ _
     (record { few = c.requires.few; sorted = c.requires.sorted }) c.requires.within (digit c)
 
 pub loop-k-preserved : goal.loop-k-preserved
 loop-k-preserved c =
     c.with_digit-number.ensures
     ∙ number_step c.args.sorts.now c.args.inputs.now c.args.places.now c.loop-k.k c.loop-k.number c.from.result
-    c.number_of-digit.result c.width.result _ _
+    c.value_number-digit.result c.width.result _ _
     (record { few = c.requires.few; sorted = c.requires.sorted }) c.requires.within
     (record {
       some = c.loop-k-test.true;
       within = c.loop-k.auto.k;
       so_far = c.loop-k.invariant;
       place = c.from.ensures;
-      read = c.number_of-digit.ensures;
+      read = c.value_number-digit.ensures;
       wide = c.width.ensures;
     })
 

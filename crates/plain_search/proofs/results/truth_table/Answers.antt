@@ -4,7 +4,7 @@ use Rattle.bv_terms.specs.declared.value.Value.{Value}
 use Rattle.bv_terms.specs.Term.{value}
 use Rattle.bv_terms.specs.Table.{term_at}
 use Rattle.plain_search.specs.Cases.{inputs_numbered}
-use Rattle.plain_search.proofs.results.table_of.Goals as goal
+use Rattle.plain_search.proofs.results.truth_table.Goals as goal
 
 pub loop-number-preserved : goal.loop-number-preserved
 loop-number-preserved c =
