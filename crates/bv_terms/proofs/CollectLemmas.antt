@@ -16,9 +16,10 @@ use Rattle.std.proofs.lemmas.List.Elements.{Contains-append_cases, Contains-push
 use Rattle.bv_terms.specs.declared.op.TermId.{TermId}
 use Rattle.bv_terms.specs.Table.{Entry, Table, term_at, IsTable}
 use Rattle.bv_terms.specs.Subterm.{IsSubtermNode, AreSubterms, IsTopological, keys_with}
-use Rattle.bv_terms.proofs.SubtermLemmas.{Contains-first, Contains-later, Contains-cases, IsSubterm-itself}
+use Rattle.bv_terms.proofs.SubtermLemmas.{IsSubterm-itself}
 use Rattle.bv_terms.proofs.SubtermLemmas.{IsSubterm-through, argument-subterm, IsClosed, AreSubterms-of}
 use Rattle.bv_terms.proofs.SubtermLemmas.{IsTopological-of}
+use Rattle.list_lemmas.proofs.Lookups.{Contains-cases, Contains-first, Contains-later}
 
 abbrev id_cmp : TermId → TermId → Ordering
 id_cmp a b = nat_cmp a.0 b.0

@@ -21,16 +21,12 @@ use Rattle.bv_terms.specs.Eval.{value_in, values_in, IsValued}
 use Rattle.bv_terms.proofs.TermLemmas.{IsSorted-of, IsFitting-of, sorts_of-sized, InputsFit-parts, values-sorted}
 use Rattle.bv_terms.proofs.TableLemmas.{term_at-node}
 use Rattle.bv_terms.proofs.MakeLemmas.{node-sorted, arity-of_args}
+use Rattle.list_lemmas.proofs.Lists.{heads, tails}
+use Rattle.list_lemmas.proofs.Lookups.{slice_get-set_other, slice_get-set_same}
 
 value_at : (room : List Value) (k : ℕ) (d : Value) → k < length room
     → slice_index_or room k d ≡ unwrap_or (slice_get room k) (val.Bool false)
 value_at room k d h = sym (ap (λ o. unwrap_or o (val.Bool false)) (slice_get-get_or room k d h))
-
-heads : {A : Type 0} (x y : A) (xs ys : List A) → x ∷ xs ≡ y ∷ ys → x ≡ y
-heads x y xs ys h = cc
-
-tails : {A : Type 0} (x y : A) (xs ys : List A) → x ∷ xs ≡ y ∷ ys → xs ≡ ys
-tails x y xs ys h = cc
 
 -- the value read for the first argument
 pub first_value : (room : List Value) (args : List TermId) (d : TermId) (e v : Value) (vs : List Value)
@@ -49,20 +45,6 @@ second_value room [] d e u v vs l h s = absurd (omega arith)
 second_value room (a ∷ args) d e u v vs l h s =
     first_value room args d e v vs (omega arith) (All-tail (λ (a : TermId). a.0 < length room) a args h)
     (tails (value_in room a) u (values_in room args) (v ∷ vs) s)
-
-slice_get-set_same : {A : Type 0} (xs : List A) (i : ℕ) (y : A) → i < length xs
-    → slice_get (slice_set xs i y) i ≡ Some y
-slice_get-set_same [] i y h = absurd (omega arith)
-slice_get-set_same (x ∷ xs) zero y h = refl
-slice_get-set_same (x ∷ xs) (suc i) y h = slice_get-set_same xs i y (omega arith)
-
-slice_get-set_other : {A : Type 0} (xs : List A) (i k : ℕ) (y : A) → k ≢ i
-    → slice_get (slice_set xs i y) k ≡ slice_get xs k
-slice_get-set_other [] i k y h = refl
-slice_get-set_other (x ∷ xs) zero zero y h = absurd (h refl)
-slice_get-set_other (x ∷ xs) zero (suc k) y h = refl
-slice_get-set_other (x ∷ xs) (suc i) zero y h = refl
-slice_get-set_other (x ∷ xs) (suc i) (suc k) y h = slice_get-set_other xs i k y (λ e. h (ap suc e))
 
 -- a node of a table has as many arguments as its operation
 pub node-arity : (table : Table) → IsTable table → (k : ℕ) (e : Entry) → slice_get table.nodes k ≡ Some e

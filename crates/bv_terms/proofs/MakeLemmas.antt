@@ -22,22 +22,11 @@ use Rattle.bv_terms.specs.declared.node.Node.{Node}
 use Rattle.bv_terms.specs.declared.node.TheConstants.{MOST_ARGS}
 use Rattle.bv_terms.specs.Node.{entry_of, node_of}
 use Rattle.bv_terms.proofs.TermLemmas.{IsSorted-of, IsFitting-of, sorts_of-some}
-use Rattle.bv_terms.proofs.TableLemmas.{length-terms_of, slice_get-at_end, term_at-push, term_at-pushed}
+use Rattle.bv_terms.proofs.TableLemmas.{length-terms_of, term_at-push, term_at-pushed}
+use Rattle.list_lemmas.proofs.Lookups.{slice_get-at_end}
+use Rattle.list_lemmas.proofs.Options.{the_some}
 
 -- ---- short lists
-
-pub empty_list : {A : Type 0} (xs : List A) → length xs < 1 → xs ≡ []
-empty_list [] h = refl
-empty_list (x ∷ xs) h = absurd (omega arith)
-
-pub one_element : {A : Type 0} (xs : List A) (d : A) → 1 ≤ length xs → length xs < 2 → xs ≡ slice_index_or xs 0 d ∷ []
-one_element [] d l h = absurd (omega arith)
-one_element (x ∷ xs) d l h = ap (λ ys. x ∷ ys) (empty_list xs (omega arith))
-
-pub two_elements : {A : Type 0} (xs : List A) (d : A) → 2 ≤ length xs → length xs < 3
-    → xs ≡ slice_index_or xs 0 d ∷ slice_index_or xs 1 d ∷ []
-two_elements [] d l h = absurd (omega arith)
-two_elements (x ∷ xs) d l h = ap (λ ys. x ∷ ys) (one_element xs d (omega arith) (omega arith))
 
 -- ---- the sorts of operands
 
@@ -56,10 +45,6 @@ pub sort_of-apply : (o : Op) (ts : Operands) (ss : List Sort) → sorts_of ts �
     → sort_of (Apply o ts) ≡ op_sort o ss
 unfolding sort_of
 sort_of-apply o ts ss e = ap (option_and_then (op_sort o)) e
-
-the_some : {A : Type 0} (o : Option A) → IsSome o → (x : A) × (o ≡ Some x)
-the_some None h = cc
-the_some (Some x) h = (x, refl)
 
 -- each node's term has a sort
 pub node-sorted : (table : Table) → IsTable table → (k : ℕ) → k < length table.nodes

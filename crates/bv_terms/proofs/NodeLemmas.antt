@@ -11,6 +11,7 @@ use Rattle.bv_terms.specs.contracts.op.TermIdPartialEq.TheImpl as ids
 use Rattle.std.specs.Cmp.Lexicographic.{pointwise}
 use Rattle.std.proofs.lemmas.Bool.Decides.{Decides-eqb}
 use Rattle.std.proofs.lemmas.Slice.Eq.{slice_eq-Decides}
+use Rattle.list_lemmas.proofs.Bools.{and_parts}
 
 abbrev pub node_eq : Node → Node → Bool
 node_eq = node.eq-value.it
@@ -23,10 +24,6 @@ op_eq-sound a b h = search (rules, tests)
 
 node_eq-laws : IsEquivalence node_eq
 node_eq-laws = laws.laws-law
-
-and_parts : (x y : Bool) → (x && y) ≡ true → (x ≡ true) × (y ≡ true)
-and_parts true y h = (refl, h)
-and_parts false y h = cc
 
 id_eq : TermId → TermId → Bool
 id_eq = ids.eq-value.it

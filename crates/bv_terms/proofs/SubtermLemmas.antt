@@ -21,22 +21,9 @@ use Rattle.bv_terms.specs.Subterm.{IsSubterm, IsSubtermAmong, IsSubtermNode, Are
 use Rattle.bv_terms.proofs.TermLemmas.{IsSorted-of, IsFitting-of, InputsFit-parts, sorts_of-some}
 use Rattle.bv_terms.proofs.TableLemmas.{term_at-node}
 use Rattle.bv_terms.proofs.MakeLemmas.{node-sorted}
+use Rattle.list_lemmas.proofs.Lookups.{Contains-cases, Contains-first, Contains-later}
 
 -- ---- elements of a list
-
-pub Contains-first : {X : Type 0} (x : X) (xs : List X) → Contains (x ∷ xs) x
-Contains-first x xs = (zero, omega arith, refl)
-
-pub Contains-later : {X : Type 0} (x y : X) (xs : List X) → Contains xs y → Contains (x ∷ xs) y
-Contains-later x y xs h = Contains-append_right (x ∷ []) xs y h
-
-only_element : {X : Type 0} (x y : X) → Contains (x ∷ []) y → x ≡ y
-only_element x y (zero, l, e) = e
-only_element x y (suc k, l, e) = absurd (omega (arith, l))
-
-pub Contains-cases : {X : Type 0} (x y : X) (xs : List X) → Contains (x ∷ xs) y → (x ≡ y) ⊎ Contains xs y
-Contains-cases x y xs h =
-    ⊎_elim (λ first. inl (only_element x y first)) (λ later. inr later) (Contains-append_cases (x ∷ []) xs y h)
 
 -- ---- subterms of a term
 

@@ -10,34 +10,11 @@ use Rattle.bv_terms.specs.declared.value.Sort.{Sort}
 use Rattle.bv_terms.specs.Term.{Term, Apply, Then}
 use Rattle.bv_terms.specs.Sorts.{sort_of}
 use Rattle.bv_terms.specs.Table.{Entry, Table, term_in, operands, terms_from, terms_of, term_at, table_with, IsTable}
+use Rattle.list_lemmas.proofs.Lookups.{Contains-from_slice_get as Contains-at, IsCut-at, push_cases}
+use Rattle.list_lemmas.proofs.Lookups.{slice_get-append_left as slice_get-append, slice_get-at_end}
+use Rattle.list_lemmas.proofs.Options.{some-is}
 
 -- ---- places of a list
-
-pub slice_get-append : {A : Type 0} (xs ys : List A) (k : ℕ) → k < length xs → slice_get (xs ++ ys) k ≡ slice_get xs k
-slice_get-append [] ys k h = absurd (omega arith)
-slice_get-append (x ∷ xs) ys zero h = refl
-slice_get-append (x ∷ xs) ys (suc k) h = slice_get-append xs ys k (omega arith)
-
-pub slice_get-at_end : {A : Type 0} (xs : List A) (y : A) (ys : List A) (k : ℕ) → k ≡ length xs
-    → slice_get (xs ++ y ∷ ys) k ≡ Some y
-slice_get-at_end [] y ys zero e = refl
-slice_get-at_end [] y ys (suc k) e = absurd (omega arith)
-slice_get-at_end (x ∷ xs) y ys zero e = absurd (omega arith)
-slice_get-at_end (x ∷ xs) y ys (suc k) e = slice_get-at_end xs y ys k (omega arith)
-
--- a list, cut round the element in a place
-pub record IsCut {A : Type 0} (xs : List A) (k : ℕ) (x : A) : Type 0 where
-  pub front : List A
-  pub back : List A
-  pub whole : xs ≡ front ++ x ∷ back
-  pub place : length front ≡ k
-
-pub IsCut-at : {A : Type 0} (xs : List A) (k : ℕ) (x : A) → slice_get xs k ≡ Some x → IsCut xs k x
-IsCut-at [] k x h = cc
-IsCut-at (y ∷ ys) zero x h = record { front = []; back = ys; whole = ap (λ z. z ∷ ys) (same_Some y x h); place = refl }
-IsCut-at (y ∷ ys) (suc k) x h =
-    let rest = IsCut-at ys k x h in
-    record { front = y ∷ rest.front; back = rest.back; whole = ap (λ zs. y ∷ zs) rest.whole; place = ap suc rest.place }
 
 -- ---- the terms of nodes
 
@@ -126,21 +103,6 @@ term_at-pushed table e at h =
     ∙ ap (λ o. unwrap_or o (term_in [] 0))
     (slice_get-at_end (terms_of table) (Apply e.op (operands (terms_of table) e.args)) [] at.0
     (omega (arith, length-terms_of table)))
-
--- the places of a list with one more element
-pub push_cases : {A : Type 0} (xs : List A) (y : A) (k : ℕ) (x : A) → slice_get (xs ++ y ∷ []) k ≡ Some x
-    → ((k < length xs) × (slice_get xs k ≡ Some x)) ⊎ ((k ≡ length xs) × (y ≡ x))
-push_cases [] y zero x h = inr (refl, same_Some y x h)
-push_cases [] y (suc k) x h = cc
-push_cases (z ∷ zs) y zero x h = inl (omega arith, h)
-push_cases (z ∷ zs) y (suc k) x h =
-    ⊎_elim (λ w. inl (omega (arith, w.0), w.1)) (λ w. inr (ap suc w.0, w.1)) (push_cases zs y k x h)
-
-Contains-at : {A : Type 0} (xs : List A) (k : ℕ) (x : A) → slice_get xs k ≡ Some x → Contains xs x
-Contains-at xs k x h = (k, slice_get_within xs k x h, get_or_from_slice_get xs k x x h)
-
-some-is : {A : Type 0} (o : Option A) (x : A) → o ≡ Some x → IsSome o
-some-is o x h = subst IsSome (sym h) refl
 
 -- a table with a new node over its nodes, well-sorted, is a table
 pub IsTable-push : (table : Table) → IsTable table → (e : Entry) (s : Sort)

@@ -17,6 +17,7 @@ use Rattle.bv_terms.specs.Term.{Term, Operands, Apply, End, Then, bits, op_value
 use Rattle.bv_terms.specs.Sorts.{HasSort, HaveSorts, arity, is_width, is_indexed, same_sort, misfit, fault_of, refusal}
 use Rattle.bv_terms.specs.Sorts.{result_sort, op_sort, sort_unless, sort_of, sorts_of, IsSized, AreSized, InputFits}
 use Rattle.bv_terms.specs.Sorts.{InputsFit, AllInputsFit}
+use Rattle.list_lemmas.proofs.Bools.{and_left as and_first}
 
 -- an operation may stand over arguments of these sorts
 pub record IsFitting (o : Op) (ss : List Sort) : Type 0 where
@@ -78,10 +79,6 @@ sorts_of-some t ts ss h = by (sort_of t) refl (sorts_of ts) refl h
 
 is_width-true : (w : ℕ) → is_width w ≡ true → (1 ≤ w) × (w ≤ 64)
 is_width-true w h = grind (arith, nat_tests)
-
-and_first : (a b : Bool) → (a && b) ≡ true → a ≡ true
-and_first true b h = refl
-and_first false b h = cc
 
 IsSized-first : (s : Sort) (ss : List Sort) → AreSized (s ∷ ss) → IsSized s
 IsSized-first s ss h = h.0

@@ -23,11 +23,9 @@ use Rattle.bv_terms.specs.Table.{Entry, Table, term_in, operands, terms_of, tabl
 use Rattle.bv_terms.specs.Node.{entry_of, node_of, table_of, IsTermTable}
 use Rattle.bv_terms.proofs.NodeLemmas.{node_eq, node_eq-sound, node_eq-refl}
 use Rattle.bv_terms.proofs.TableLemmas.{terms_of-push, IsTable-push}
-
-option_map-some : {A B : Type 0} (f : A → B) (o : Option A) (y : B) → option_map f o ≡ Some y
-    → (x : A) × (o ≡ Some x) × (f x ≡ y)
-option_map-some f None y h = cc
-option_map-some f (Some x) y h = (x, refl, same_Some (f x) y h)
+use Rattle.list_lemmas.proofs.Lookups.{Contains-from_slice_get, Contains-slice_get}
+use Rattle.list_lemmas.proofs.Numbers.{not_less}
+use Rattle.list_lemmas.proofs.Options.{option_map-some}
 
 -- ---- sorts
 
@@ -82,15 +80,6 @@ found-node pointer kept n k h =
 past_end : (b : Bool) (k : ℕ) → cond b (Some k) None ≡ None → b ≡ false
 past_end true k h = cc
 past_end false k h = refl
-
-not_less : (m n : ℕ) → nat_lt m n ≡ false → n ≤ m
-not_less m n h = grind (arith, nat_tests)
-
-Contains-slice_get : {A : Type 0} (xs : List A) (x : A) → Contains xs x → (k : ℕ) × (slice_get xs k ≡ Some x)
-Contains-slice_get xs x w = (w.0, slice_get-get_or xs w.0 x w.1 ∙ ap Some w.2)
-
-pub Contains-from_slice_get : {A : Type 0} (xs : List A) (k : ℕ) (x : A) → slice_get xs k ≡ Some x → Contains xs x
-Contains-from_slice_get xs k x h = (k, slice_get_within xs k x h, get_or_from_slice_get xs k x x h)
 
 -- and one that is not found stands nowhere
 pub missing-node : (pointer : ℕ) (kept : List (Node × Sort)) → IsTermTable pointer kept → (n : Node)

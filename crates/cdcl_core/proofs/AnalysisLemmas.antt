@@ -10,7 +10,6 @@ use Rattle.cnf_core.specs.declared.clause.Lit.{Lit}
 use Rattle.cnf_core.specs.declared.clause.Clause.{Clause}
 use Rattle.cnf_core.specs.Clause.{opposite, same_lit, contains, assigned, AreSame, IsSubset, IsOver}
 use Rattle.cnf_core.specs.Resolution.{after_steps, IsNewClause}
-use Rattle.cnf_core.proofs.Sets.{true-or-false, and-left, and-right, and-both, or-cases, or-left, or-right, same_test}
 use Rattle.cnf_core.proofs.Sets.{same_lit-true, same_lit-from, same_lit-itself, different, contains-append}
 use Rattle.cnf_core.proofs.Sets.{opposite-opposite, opposite-same, same_variable, no_literal}
 use Rattle.cnf_core.proofs.Over.{over-at}
@@ -20,6 +19,8 @@ use Rattle.cdcl_core.specs.Analysis.{contains_variable, AreUnmarked, Leads, IsCo
 use Rattle.cdcl_core.proofs.MarkLemmas.{contains_variable-from, contains_variable-at}
 use Rattle.cdcl_core.proofs.Places.{Stands, place_of, place_in, contains-from, contains-more, not_yet, contains-at}
 use Rattle.cdcl_core.proofs.Places.{contains-part, clash}
+use Rattle.list_lemmas.proofs.Bools.{and-both, and_left as and-left, and_right as and-right, or-cases, or-left}
+use Rattle.list_lemmas.proofs.Bools.{or-right, same_test, true-or-false}
 
 -- ---- the beginning: all literals of the false clause
 

@@ -8,7 +8,6 @@ use Rattle.cnf_core.specs.declared.clause.Lit.{Lit}
 use Rattle.cnf_core.specs.declared.clause.Clause.{Clause}
 use Rattle.cnf_core.specs.Clause.{opposite, same_lit, contains, assigned}
 use Rattle.cnf_core.specs.Resolution.{without, resolvent, step}
-use Rattle.cnf_core.proofs.Sets.{true-or-false, and-left, and-right, and-both, or-cases, or-left, or-right, same_test}
 use Rattle.cnf_core.proofs.Sets.{same_lit-true, same_lit-from, contains-left, contains-right, contains-cases}
 use Rattle.cnf_core.proofs.Sets.{contains-without, opposite-opposite, same_variable}
 use Rattle.cnf_core.proofs.Chains.{after_steps-more}
@@ -16,6 +15,8 @@ use Rattle.cdcl_core.specs.Trail.{HasDistinctVariables, IsUnassigned, Forces}
 use Rattle.cdcl_core.specs.Analysis.{contains_variable, IsMarked, AreUnmarked, Leads, HasReason, IsLastMarked}
 use Rattle.cdcl_core.proofs.MarkLemmas.{contains_variable-from, contains_variable-at}
 use Rattle.cdcl_core.proofs.Places.{Stands, place_of, contains-from, contains-more, not_both}
+use Rattle.list_lemmas.proofs.Bools.{and-both, and_left as and-left, and_right as and-right, or-cases, or-left}
+use Rattle.list_lemmas.proofs.Bools.{or-right, same_test, true-or-false}
 
 -- ---- a step that resolves
 

@@ -6,9 +6,10 @@ use Rattle.std.proofs.lemmas.Bool.Decides.{nat_tests}
 use Rattle.std.proofs.lemmas.List.Folds.{list_any_more}
 use Rattle.std.proofs.Math.Bool.{or_assoc, or-false, or-true}
 use Rattle.cnf_core.specs.declared.clause.Lit.{Lit}
-use Rattle.cnf_core.proofs.Sets.{or-cases, or-left, or-right, same_lit-true, contains-head, contains-tail}
+use Rattle.cnf_core.proofs.Sets.{same_lit-true, contains-head, contains-tail}
 use Rattle.cnf_core.specs.Clause.{same_lit, contains, assigned}
 use Rattle.cdcl_core.specs.Analysis.{contains_variable, IsMarked}
+use Rattle.list_lemmas.proofs.Bools.{or-cases, or-left, or-right}
 
 -- ---- one more mark
 

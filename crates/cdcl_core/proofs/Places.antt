@@ -5,40 +5,12 @@ use Rattle.std.proofs.lemmas.Bool.{false≢true, cases_lt}
 use Rattle.std.proofs.lemmas.Option.{none-some, same_Some, slice_get_within}
 use Rattle.cnf_core.specs.declared.clause.Lit.{Lit}
 use Rattle.cnf_core.specs.Clause.{opposite, same_lit, contains}
-use Rattle.cnf_core.proofs.Sets.{true-or-false, or-cases, same_lit-true, contains-head, contains-tail}
+use Rattle.cnf_core.proofs.Sets.{same_lit-true, contains-head, contains-tail}
 use Rattle.cnf_core.proofs.Sets.{opposite-opposite, opposite-differs}
 use Rattle.cdcl_core.specs.Trail.{HasDistinctVariables}
+use Rattle.list_lemmas.proofs.Bools.{or-cases, true-or-false}
 
 -- ---- lists
-
-pub slice_get-left : {A : Type 0} (xs ys : List A) (k : ℕ) (x : A) → slice_get xs k ≡ Some x →
-    slice_get (xs ++ ys) k ≡ Some x
-slice_get-left [] ys k x h = absurd (none-some x h)
-slice_get-left (y ∷ xs) ys zero x h = h
-slice_get-left (y ∷ xs) ys (suc k) x h = slice_get-left xs ys k x h
-
--- a place of a list with one more element
-pub slice_get-push : {A : Type 0} (xs : List A) (y : A) (k : ℕ) (x : A) → slice_get (xs ++ y ∷ []) k ≡ Some x →
-    (slice_get xs k ≡ Some x) ⊎ ((k ≡ length xs) × (y ≡ x))
-slice_get-push [] y zero x h = inr (refl, same_Some y x h)
-slice_get-push [] y (suc k) x h = absurd (none-some x h)
-slice_get-push (z ∷ xs) y zero x h = inl h
-slice_get-push (z ∷ xs) y (suc k) x h = by (slice_get-push xs y k x h)
-  where
-    by : (slice_get xs k ≡ Some x) ⊎ ((k ≡ length xs) × (y ≡ x)) →
-        (slice_get xs k ≡ Some x) ⊎ ((suc k ≡ suc (length xs)) × (y ≡ x))
-    by (inl e) = inl e
-    by (inr e) = inr (ap suc e.0, e.1)
-
--- a place of a list's front
-pub slice_get-front : {A : Type 0} (n : ℕ) (xs : List A) (k : ℕ) (x : A) → slice_get (take n xs) k ≡ Some x →
-    (k < n) × (slice_get xs k ≡ Some x)
-slice_get-front zero xs k x h = absurd (none-some x h)
-slice_get-front (suc n) [] k x h = absurd (none-some x h)
-slice_get-front (suc n) (y ∷ xs) zero x h = (omega arith, h)
-slice_get-front (suc n) (y ∷ xs) (suc k) x h =
-    let rest = slice_get-front n xs k x h in
-    (omega arith, rest.1)
 
 -- ---- literals
 

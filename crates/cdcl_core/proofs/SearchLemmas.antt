@@ -17,8 +17,8 @@ use Rattle.cnf_core.specs.Clause.{same_lit, contains, lit_true, clause_true, is_
 use Rattle.cnf_core.specs.Clause.{IsOver, IsSubset}
 use Rattle.cnf_core.specs.Resolution.{derived, clause, with_chains, IsAccepted, HasNoEmptyClause, IsNewClause}
 use Rattle.cnf_core.specs.Resolution.{AreNewClauses}
-use Rattle.cnf_core.proofs.Sets.{true-or-false, and-left, and-right, and-both, or-cases, contains-tail, or-left}
-use Rattle.cnf_core.proofs.Sets.{or-right, same_lit-true, no_literal, contains-head, AreSame-trans, AreSame-sym}
+use Rattle.cnf_core.proofs.Sets.{contains-tail}
+use Rattle.cnf_core.proofs.Sets.{same_lit-true, no_literal, contains-head, AreSame-trans, AreSame-sym}
 use Rattle.cnf_core.proofs.Same.{derived-same, same-Some, IsNewClause-same, AllSame-more, AllSame-get, AllSame-length}
 use Rattle.cnf_core.proofs.Same.{AllSame-itself}
 use Rattle.cnf_core.proofs.Chains.{with_chains-more, AreNewClauses-more}
@@ -32,15 +32,11 @@ use Rattle.cdcl_core.specs.Search.{IsReady, IsLogOf}
 use Rattle.cdcl_core.proofs.Places.{opposite_not_true}
 use Rattle.cdcl_core.proofs.TrailLemmas.{ArePropagatedBefore-extends, AreReasons-forced, AreReasons-more}
 use Rattle.cdcl_core.proofs.TrailLemmas.{AreReasons-cancelled, ArePropagatedBefore-cancelled, forced}
+use Rattle.list_lemmas.proofs.Bools.{and-both, and_left as and-left, and_right as and-right, or-cases, or-left}
+use Rattle.list_lemmas.proofs.Bools.{or-right, true-or-false}
+use Rattle.list_lemmas.proofs.Lookups.{Contains-at}
 
 -- ---- places of a list
-
-get_or_default : {X : Type 0} → (xs : List X) (k : ℕ) (d e : X) → k < length xs → get_or xs k d ≡ get_or xs k e
-get_or_default xs k d e h =
-    same_Some (get_or xs k d) (get_or xs k e) (sym (slice_get-get_or xs k d h) ∙ slice_get-get_or xs k e h)
-
-Contains-at : (xs : List ℕ) (k d : ℕ) → k < length xs → Contains xs (get_or xs k d)
-Contains-at xs k d h = (k, h, get_or_default xs k (get_or xs k d) d h)
 
 -- ---- what is asked of a trail
 
@@ -318,11 +314,6 @@ propagated-model cs t values it over propagated all gives =
             (lit-true t values h.first it gives (over-at t.variables c h.first o h.first_stands) e)
         by (inr e) =
             absurd (false≢true (sym h.first_not_false ∙ all h.first (over-at t.variables c h.first o h.first_stands) e))
-
--- three facts of a result that there is
-pub on_ok_three : {T E A B C D : Type 0} (r : Result T E) → (A → B → C → D) → OnOk r A → OnOk r B → OnOk r C → OnOk r D
-on_ok_three (Ok x) f a b c = f a b c
-on_ok_three (Err e) f a b c = tt
 
 -- a clause with a literal is not empty
 pub filled_by : (c : List Lit) (l : Lit) → contains c l ≡ true → c ≢ []

@@ -4,11 +4,12 @@ use Rattle.std.proofs.Common.{inl, inr}
 use Rattle.std.proofs.lemmas.Bool.{false≢true}
 use Rattle.cnf_core.specs.declared.clause.Lit.{Lit}
 use Rattle.cnf_core.specs.Clause.{opposite, same_lit, contains, IsSubset}
-use Rattle.cnf_core.proofs.Sets.{true-or-false, or-cases, same_lit-true, contains-one, contains-head, contains-tail}
+use Rattle.cnf_core.proofs.Sets.{same_lit-true, contains-one, contains-head, contains-tail}
 use Rattle.cdcl_core.specs.declared.propagation.ClauseStatus.{ClauseStatus}
 use Rattle.cdcl_core.specs.declared.propagation.ClauseStatus.TheVariants.{Satisfied, Unresolved, Unit, Falsified}
 use Rattle.cdcl_core.specs.Trail.{IsUnassigned, IsFalsified, IsUnresolved, Forces}
 use Rattle.cdcl_core.specs.ClauseStatus.{IsStatus, clause_status}
+use Rattle.list_lemmas.proofs.Bools.{or-cases, true-or-false}
 
 -- each literal of the first clause is in the second, or is false
 abbrev IsSubsetButFalse : List Lit → List Lit → List Lit → Type 0

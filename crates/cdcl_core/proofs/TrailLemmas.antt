@@ -10,7 +10,7 @@ use Rattle.cnf_core.specs.declared.clause.Lit.{Lit}
 use Rattle.cnf_core.specs.declared.clause.Clause.{Clause}
 use Rattle.cdcl_core.specs.Trail.{Trail, IsTrail, Forces, ArePropagated, AreReasons, ArePropagatedBefore, ExtendsTrail}
 use Rattle.cdcl_core.specs.Trail.{IsCancelled}
-use Rattle.cdcl_core.proofs.Places.{slice_get-left, slice_get-push, slice_get-front}
+use Rattle.list_lemmas.proofs.Lookups.{slice_get-front, slice_get-left, slice_get-push}
 
 -- ---- more literals
 

@@ -11,12 +11,14 @@ use Rattle.std.proofs.lemmas.List.Sums.{sum_by-set, count_by-le-length}
 use Rattle.std.proofs.Math.Seq.{take-append_seam}
 use Rattle.cnf_core.specs.declared.clause.Lit.{Lit}
 use Rattle.cnf_core.specs.Clause.{opposite, same_lit, contains, IsOver}
-use Rattle.cnf_core.proofs.Sets.{true-or-false, same_variable, different, opposite-differs, contains-append}
+use Rattle.cnf_core.proofs.Sets.{same_variable, different, opposite-differs, contains-append}
 use Rattle.cnf_core.proofs.Sets.{contains-right, contains-head}
 use Rattle.cdcl_core.specs.Trail.{HasDistinctVariables, Trail, IsTrail, IsUnassigned, IsCancelled}
 use Rattle.cdcl_core.specs.Values.{trail_of, is_value, makes_true, AreValues}
-use Rattle.cdcl_core.proofs.Places.{slice_get-push, slice_get-front}
 use Rattle.cdcl_core.proofs.TrailLemmas.{decided, forced}
+use Rattle.list_lemmas.proofs.Bools.{true-or-false}
+use Rattle.list_lemmas.proofs.Lookups.{All-slice_get, slice_get-end, slice_get-front, slice_get-push}
+use Rattle.list_lemmas.proofs.Numbers.{equal-or-not}
 
 -- ---- trails
 
@@ -143,13 +145,6 @@ weight value = cond (is_some value) 1 0
 counted : (values : List (Option Bool)) (k : ℕ) (value : Option Bool) → k < length values →
     count_by is_some (set values k value) + weight (get_or values k None) ≡ count_by is_some values + weight value
 counted values k value lt = sum_by-set weight values k value None lt
-
-equal-or-not : (a b : ℕ) → (a ≡ b) ⊎ (a ≡ b → ⊥)
-equal-or-not a b = by (true-or-false (a == b))
-  where
-    by : ((a == b) ≡ true) ⊎ ((a == b) ≡ false) → (a ≡ b) ⊎ (a ≡ b → ⊥)
-    by (inl e) = inl (eqb-true a b e)
-    by (inr e) = inr (eqb-false a b e)
 
 variable-differs : (l m : Lit) → (m.variable ≡ l.variable → ⊥) → same_lit m l ≡ false
 variable-differs l m h = different m l (λ e. h (ap (λ (x : Lit). x.variable) e))
@@ -319,13 +314,6 @@ state-decided lits reasons level_starts values phases t l lits' reasons' level_s
         )
 
 -- ---- cancelled literals
-
-slice_get-end : {A : Type 0} (xs : List A) (x : A) → slice_get (xs ++ x ∷ []) (length xs) ≡ Some x
-slice_get-end [] x = refl
-slice_get-end (y ∷ xs) x = slice_get-end xs x
-
-All-slice_get : {A : Type 0} (P : A → Type 0) (xs : List A) (k : ℕ) (x : A) → All P xs → slice_get xs k ≡ Some x → P x
-All-slice_get P xs k x h at = subst P (get_or_from_slice_get xs k x x at) (h k x (slice_get_within xs k x at))
 
 pub unassign_from-step : (all lits left : List Lit) (values : List (Option Bool)) (phases phases' : List Bool)
     (l : Lit) → HasDistinctVariables all → IsOver (length values) all →

@@ -1,8 +1,6 @@
--- Conflict analysis: the clause that resolution with the reasons of the last literals leads to.
--- J. Marques-Silva, K. Sakallah, GRASP, IEEE Transactions on Computers 48 (1999); L. Zhang, C. Madigan, M. Moskewicz,
--- S. Malik,
--- Efficient conflict driven learning in a Boolean satisfiability solver, ICCAD 2001 (the first unique implication
--- point).
+-- Conflict analysis: the clause that resolution with the reasons of the last literals leads to. J. Marques-Silva, K.
+-- Sakallah, GRASP, IEEE Transactions on Computers 48 (1999); L. Zhang, C. Madigan, M. Moskewicz, S. Malik, Efficient
+-- conflict driven learning in a Boolean satisfiability solver, ICCAD 2001 (the first unique implication point).
 use Rattle.std.specs.Prelude.{◌≡◌, ℕ, zero, suc, ◌+◌, ◌<◌, ◌≤◌, ◌==◌, ◌&&◌, ◌||◌, Bool, true, false, List, take, length}
 use Rattle.std.specs.Prelude.{Option, Some, slice_get}
 use Rattle.std.specs.List.{list_any}

@@ -1,6 +1,5 @@
-//! Unit propagation by passes over all clauses. Each clause has a blocker, a literal that it contains and that is
-//! looked
-//! at first: the one that was true when the whole clause was last looked at.
+//! Unit propagation by passes over all clauses. Each clause has a blocker, a literal that it contains
+//! and that is looked at first: the one that was true when the whole clause was last looked at.
 
 ghost use Rattle.std.specs.Prelude.{◌≡◌, true, None, All, IfOk, OnOk, IfSome, IfNone};
 ghost use Rattle.cnf_core.specs.Clause.{contains, IsOver};

@@ -6,11 +6,7 @@ use Rattle.cnf_core.specs.declared.clause.Lit.{Lit}
 use Rattle.cnf_core.specs.declared.clause.Clause.{Clause}
 use Rattle.cnf_core.specs.declared.log.Chain.{Chain}
 use Rattle.cnf_core.specs.Resolution.{step, after_steps, derived, clause, with_chains, IsNewClause, AreNewClauses}
-
-bind-bind : {A B C : Type 0} (o : Option A) (f : A → Option B) (g : B → Option C) →
-    option_and_then g (option_and_then f o) ≡ option_and_then (λ x. option_and_then g (f x)) o
-bind-bind None f g = refl
-bind-bind (Some x) f g = refl
+use Rattle.list_lemmas.proofs.Options.{bind-bind}
 
 -- steps, and then more of them
 pub after_steps-append : (cs : List Clause) (ss ts : List (Lit × ℕ)) (c : List Lit) →

@@ -7,8 +7,9 @@ use Rattle.cnf_core.specs.declared.clause.Lit.{Lit}
 use Rattle.cnf_core.specs.declared.clause.Clause.{Clause}
 use Rattle.cnf_core.specs.Clause.{opposite, same_lit, contains, is_subset, is_tautology, is_subsumed, IsSubset}
 use Rattle.cnf_core.specs.Resolution.{IsNewClause}
-use Rattle.cnf_core.proofs.Sets.{true-or-false, and-left, and-right, and-both, or-left, or-right, or-cases}
 use Rattle.cnf_core.proofs.Sets.{same_lit-true, contains-head, contains-tail}
+use Rattle.list_lemmas.proofs.Bools.{and-both, and_left as and-left, and_right as and-right, or-cases, or-left}
+use Rattle.list_lemmas.proofs.Bools.{or-right, true-or-false}
 
 -- ---- subsets
 

@@ -17,6 +17,7 @@ use Rattle.cnf_core.specs.Clause.{opposite, contains, IsOver, IsSubset}
 use Rattle.cnf_core.specs.Resolution.{clause, with_chains, HasNoEmptyClause, AreNewClauses}
 use Rattle.cnf_core.proofs.Sets.{contains-head}
 use Rattle.cnf_core.proofs.Over.{over-at, derived-over}
+use Rattle.list_lemmas.proofs.Lookups.{All-front, AllByRecursion-push}
 
 -- ---- rows
 
@@ -179,9 +180,6 @@ record NewClauses (variables : ℕ) (cs : List Clause) (chains : List Chain) : T
   apart : All (λ (c : Clause). AllByRecursion (λ d. IsSubset c.lits d → ⊥) lits) cs
   all : with_chains cs chains ≡ Some (cs ++ map clause lits)
 
-All-front : {X : Type 0} (P : X → Type 0) (xs ys : List X) → All P (xs ++ ys) → All P xs
-All-front P xs ys h = All-same P xs _ (sym (take_at xs ys (length xs) refl)) (All-take P (length xs) (xs ++ ys) h)
-
 new_clauses : (variables : ℕ) (cs : List Clause) (chains : List Chain) →
     All (λ (c : Clause). IsOver variables c.lits) cs → AreNewClauses cs chains → NewClauses variables cs chains
 new_clauses variables cs [] over h = record {
@@ -222,11 +220,6 @@ new_clauses_are_few variables cs chains over h =
     omega arith
 
 -- ---- where none is empty, the empty clause would be one more
-
-AllByRecursion-push : {X : Type 0} (P : X → Type 0) (xs : List X) (x : X) → AllByRecursion P xs → P x →
-    AllByRecursion P (xs ++ x ∷ [])
-AllByRecursion-push P [] x h p = (p, tt)
-AllByRecursion-push P (y ∷ ys) x h p = (h.0, AllByRecursion-push P ys x h.1 p)
 
 AreNotSubsumed-push : (cs : List (List Lit)) (d : List Lit) → AreNotSubsumed cs →
     AllByRecursion (λ c. IsSubset c d → ⊥) cs → AreNotSubsumed (cs ++ d ∷ [])

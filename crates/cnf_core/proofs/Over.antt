@@ -10,7 +10,8 @@ use Rattle.cnf_core.specs.declared.clause.Clause.{Clause}
 use Rattle.cnf_core.specs.declared.log.Chain.{Chain}
 use Rattle.cnf_core.specs.Clause.{opposite, same_lit, contains, IsOver}
 use Rattle.cnf_core.specs.Resolution.{without, resolvent, step, after_steps, derived}
-use Rattle.cnf_core.proofs.Sets.{or-cases, same_lit-true}
+use Rattle.cnf_core.proofs.Sets.{same_lit-true}
+use Rattle.list_lemmas.proofs.Bools.{or-cases}
 
 -- the variable of a literal of a clause over n variables
 pub over-at : (variables : ℕ) (c : List Lit) (l : Lit) → IsOver variables c → contains c l ≡ true →

@@ -8,8 +8,9 @@ use Rattle.cnf_core.specs.declared.log.Chain.{Chain}
 pub use Rattle.cnf_core.specs.Clause.{AllSame}
 use Rattle.cnf_core.specs.Clause.{opposite, contains, AreSame}
 use Rattle.cnf_core.specs.Resolution.{without, resolvent, step, after_steps, derived, IsNewClause}
-use Rattle.cnf_core.proofs.Sets.{true-or-false, without-same, append-same, AreSame-itself, AreSame-sym, IsSubset-from}
+use Rattle.cnf_core.proofs.Sets.{without-same, append-same, AreSame-itself, AreSame-sym, IsSubset-from}
 use Rattle.cnf_core.proofs.Sets.{IsSubset-trans}
+use Rattle.list_lemmas.proofs.Bools.{true-or-false}
 
 pub AllSame-itself : (cs : List Clause) → AllSame cs cs
 AllSame-itself [] = tt

@@ -8,49 +8,10 @@ use Rattle.std.proofs.lemmas.List.Folds.{list_any-append}
 use Rattle.cnf_core.specs.declared.clause.Lit.{Lit}
 use Rattle.cnf_core.specs.Clause.{opposite, same_lit, contains, IsSubset, AreSame}
 use Rattle.cnf_core.specs.Resolution.{without}
+use Rattle.list_lemmas.proofs.Bools.{and-both, and_left as and-left, and_right as and-right, not-not, not-same}
+use Rattle.list_lemmas.proofs.Bools.{or-cases, or-left, or-right, same_test, true-or-false}
 
 -- ---- tests
-
-pub true-or-false : (b : Bool) → (b ≡ true) ⊎ (b ≡ false)
-true-or-false true = inl refl
-true-or-false false = inr refl
-
-pub and-left : (a b : Bool) → (a && b) ≡ true → a ≡ true
-and-left true b h = refl
-and-left false b h = h
-
-pub and-right : (a b : Bool) → (a && b) ≡ true → b ≡ true
-and-right true b h = h
-and-right false b h = absurd (false≢true h)
-
-pub and-both : (a b : Bool) → a ≡ true → b ≡ true → (a && b) ≡ true
-and-both a b h k = ap (λ x. x && b) h ∙ k
-
-pub or-right : (a b : Bool) → b ≡ true → (a || b) ≡ true
-or-right true b h = refl
-or-right false b h = h
-
-pub or-left : (a b : Bool) → a ≡ true → (a || b) ≡ true
-or-left a b h = ap (λ x. x || b) h
-
-pub or-cases : (a b : Bool) → (a || b) ≡ true → (a ≡ true) ⊎ (b ≡ true)
-or-cases true b h = inl refl
-or-cases false b h = inr h
-
-pub not-not : (b : Bool) → not (not b) ≡ b
-not-not true = refl
-not-not false = refl
-
-pub not-same : (b : Bool) → b ≡ not b → ⊥
-not-same true h = false≢true (sym h)
-not-same false h = false≢true h
-
--- two tests agree where each is true where the other is
-pub same_test : (a b : Bool) → (a ≡ true → b ≡ true) → (b ≡ true → a ≡ true) → a ≡ b
-same_test true true f g = refl
-same_test true false f g = sym (f refl)
-same_test false true f g = g refl
-same_test false false f g = refl
 
 -- ---- equal literals
 

@@ -11,7 +11,8 @@ use Rattle.cnf_core.specs.declared.clause.Clause.{Clause}
 use Rattle.cnf_core.specs.declared.log.Chain.{Chain}
 use Rattle.cnf_core.specs.Clause.{opposite, same_lit, contains, lit_true, clause_true, is_model, HasNoModel}
 use Rattle.cnf_core.specs.Resolution.{without, resolvent, step, after_steps, derived, clause, with_chains, IsAccepted}
-use Rattle.cnf_core.proofs.Sets.{true-or-false, and-both, or-left, or-right, same_lit-true}
+use Rattle.cnf_core.proofs.Sets.{same_lit-true}
+use Rattle.list_lemmas.proofs.Bools.{and-both, or-left, or-right, true-or-false}
 
 -- ---- clauses that are true
 

@@ -1,7 +1,6 @@
--- Resolution, logs of it, and which log refutes a list of clauses.
--- J. A. Robinson, A machine-oriented logic based on the resolution principle, Journal of the ACM 12 (1965), for clauses
--- without
--- quantifiers. A chain names its clauses by number, as the traces of zChaff and TraceCheck do.
+-- Resolution, logs of it, and which log refutes a list of clauses. J. A. Robinson, A machine-oriented logic based on
+-- the resolution principle, Journal of the ACM 12 (1965), for clauses without quantifiers. A chain names its clauses
+-- by number, as the traces of zChaff and TraceCheck do.
 use Rattle.std.specs.Prelude.{◌≡◌, ℕ, ◌&&◌, true, false, not, if◌then◌else◌, List, [], ◌∷◌, ◌++◌, take, Option, Some}
 use Rattle.std.specs.Prelude.{None, option_and_then, slice_get, All, Contains}
 use Rattle.std.specs.List.{filter}

@@ -12,20 +12,7 @@ use Rattle.isel_spec.specs.Form.{where_true, tree_view, list_of, word_in, member
 use Rattle.isel_spec.specs.Form.{one_of, two_of, three_of, four_of, first_of, sort_in, arg_in}
 use Rattle.isel_spec.specs.Form.{goal_arg_in, binding_in, pointer_in, cost_in, parts_in, Parts}
 use Rattle.isel_spec.specs.Items.{item_view}
-
--- both give nothing, or both something, and these are related
-abbrev pub Agree : {A B : Type 0} → (A → B → Type 0) → Option A → Option B → Type 0
-Agree R None None = Unit {0}
-Agree R (Some a) (Some b) = R a b
-Agree R _ _ = ⊥
-
-pub bind_agree : {A B C : Type 0} (R : A → B → Type 0) (o : Option A) (p : Option B) (f : A → Option C)
-    (g : B → Option C) →
-    Agree R o p → ((a : A) (b : B) → R a b → f a ≡ g b) → option_and_then f o ≡ option_and_then g p
-bind_agree R None None f g r h = refl
-bind_agree R None (Some b) f g r h = absurd r
-bind_agree R (Some a) None f g r h = absurd r
-bind_agree R (Some a) (Some b) f g r h = h a b r
+use Rattle.list_lemmas.proofs.Options.{Agree, bind_agree, bind_related, bind_same}
 
 pub words_agree : (bytes : List ℕ) (items : List Item) (number : ℕ) (tree : Tree) → Denotes bytes items number tree
     → atom_at bytes items number ≡ word_in tree
@@ -192,20 +179,6 @@ pointer_agrees bytes items number tree d =
       words_agree bytes items p.1 q.1 e.1,
       words_agree bytes items p.2 q.2 e.2,
     ) refl))
-
-pub bind_related : {A B C D : Type 0} (R : A → B → Type 0) (S : C → D → Type 0) (o : Option A) (p : Option B)
-    (f : A → Option C) (g : B → Option D) →
-    Agree R o p → ((a : A) (b : B) → R a b → Agree S (f a) (g b)) → Agree S (option_and_then f o) (option_and_then g p)
-bind_related R S None None f g r h = tt
-bind_related R S None (Some b) f g r h = absurd r
-bind_related R S (Some a) None f g r h = absurd r
-bind_related R S (Some a) (Some b) f g r h = h a b r
-
--- the same first step
-pub bind_same : {A C D : Type 0} (S : C → D → Type 0) (o p : Option A) (f : A → Option C) (g : A → Option D) →
-    o ≡ p → ((a : A) → Agree S (f a) (g a)) → Agree S (option_and_then f o) (option_and_then g p)
-bind_same S None p f g e h = rw (← e) tt
-bind_same S (Some a) p f g e h = rw (← e) (h a)
 
 where_agrees : {A B : Type 0} (R : A → B → Type 0) (b : Bool) (x : A) (y : B) → R x y
     → Agree R (where_true b x) (where_true b y)

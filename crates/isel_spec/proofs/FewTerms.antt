@@ -19,23 +19,12 @@ use Rattle.bv_terms.specs.Table.{Table, Entry, IsTable, terms_of, term_in, opera
 use Rattle.bv_terms.specs.Subterm.{IsSubterm}
 use Rattle.bv_terms.proofs.SubtermLemmas.{entry-at, among-argument}
 use Rattle.isel_spec.specs.Form.{HasFewTerms}
-use Rattle.isel_spec.proofs.Scopes.{only_one, false_unless}
 use Rattle.isel_spec.proofs.NodeLemmas.{Found, node-term}
+use Rattle.list_lemmas.proofs.Bools.{false_unless}
+use Rattle.list_lemmas.proofs.Lookups.{map-contains, only_one, same-element}
 
 no_entry : Entry
 no_entry = record { op = op.Bits 0 0; args = [] }
-
--- what an element of a list is doesn't depend on what stands past its end
-same-element : {A : Type 0} (xs : List A) (k : ℕ) (d e : A) → k < length xs → get_or xs k d ≡ get_or xs k e
-same-element xs k d e h =
-    same_Some (get_or xs k d) (get_or xs k e) (sym (slice_get-get_or xs k d h) ∙ slice_get-get_or xs k e h)
-
-map-contains : {A B : Type 0} (f : A → B) (xs : List A) (x : A) → Contains xs x → Contains (map f xs) (f x)
-map-contains f [] x h = absurd (omega (arith, h.1))
-map-contains f (y ∷ ys) x h =
-    ⊎_elim (λ first. (zero, omega arith, ap f (only_one y x first)))
-    (λ later. Contains-append_right (f y ∷ []) (map f ys) (f x) (map-contains f ys x later))
-    (Contains-append_cases (y ∷ []) ys x h)
 
 -- ---- each term that stands in the term was found
 

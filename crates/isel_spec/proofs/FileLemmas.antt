@@ -27,7 +27,8 @@ use Rattle.isel_spec.specs.Form.{is_small, is_new, file_in, pointer_in, with_ite
 use Rattle.isel_spec.specs.Items.{item_view}
 use Rattle.isel_spec.specs.Tables.{file_so_far, HasFew, IsSoundSoFar, IsAdded, IsRefused}
 use Rattle.isel_spec.proofs.Agreement.{pointer_agrees, all_agree}
-use Rattle.isel_spec.proofs.Scopes.{any_name, false_unless}
+use Rattle.list_lemmas.proofs.Bools.{false_unless, le_true as le-true}
+use Rattle.list_lemmas.proofs.Lookups.{any_name, contains-any, not-any}
 
 -- ---- tests
 
@@ -40,26 +41,6 @@ pub names_of_goals : (table : Table) (es : List (List ℕ × GoalDef))
     → map (λ (g : file.Goal). g.name) (map (goal table) es) ≡ map (λ (e : List ℕ × GoalDef). e.0) es
 names_of_goals table [] = refl
 names_of_goals table (e ∷ es) = ap (λ ns. e.0 ∷ ns) (names_of_goals table es)
-
-pub one-there : {A : Type 0} (gs : List A) (g : A) → length gs ≡ 1 → slice_get gs 0 ≡ Some g → gs ≡ g ∷ []
-one-there [] g n e = absurd (none-some g e)
-one-there (h ∷ []) g n e = ap (λ x. x ∷ []) (same_Some h g e)
-one-there (h ∷ k ∷ gs) g n e = absurd (omega (arith, n))
-
-any-there : (n : List ℕ) (ns : List (List ℕ)) → list_any (bytes_eq n) ns ≡ true → Contains ns n
-any-there n [] e = absurd (false≢true e)
-any-there n (m ∷ ns) e = by_first (bytes_eq n m) refl e (any-there n ns)
-  where
-    by_first : (b : Bool) → bytes_eq n m ≡ b → (b || list_any (bytes_eq n) ns) ≡ true
-        → (list_any (bytes_eq n) ns ≡ true → Contains ns n) → Contains (m ∷ ns) n
-    by_first true same e rest = (zero, omega arith, sym ((bytes_eq-Decides n m).0 same))
-    by_first false same e rest = Contains-append_right (m ∷ []) ns n (rest e)
-
-pub contains-any : (b : Bool) (n : List ℕ) (ns : List (List ℕ)) → (b ≡ true → Contains ns n)
-    → (Contains ns n → b ≡ true) → not b ≡ not (list_any (bytes_eq n) ns)
-contains-any true n ns f g = ap not (sym (any_name n ns (f refl)))
-contains-any false n ns f g =
-    ap not (sym (false_unless (list_any (bytes_eq n) ns) (λ e. false≢true (g (any-there n ns e)))))
 
 first-new : (tables : Tables) (n : List ℕ) (a : Bool)
     → (a ≡ true → Contains (map (λ (e : List ℕ × OpDef). e.0) tables.ops) n)
@@ -94,10 +75,6 @@ pub new-if-no_op : (tables : Tables) (n : List ℕ) (a b : Bool) → a ≡ false
 new-if-no_op tables n a b e f g h k =
     let second = not (list_any (bytes_eq n) (map (λ (g : file.Goal). g.name) (file_so_far tables).goals)) in
     second-new tables n b h k ∙ sym (ap (λ x. x && second) (sym (first-new tables n a f g) ∙ ap not e))
-
-not-any : (name : List ℕ) (names : List (List ℕ)) → not (list_any (bytes_eq name) names) ≡ true → Contains names name
-    → ⊥
-not-any name names e has = false≢true (sym (ap not (any_name name names has)) ∙ e)
 
 -- a new name is none of the tables'
 pub new-op : (tables : Tables) (n name : List ℕ) → n ≡ name → is_new (file_so_far tables) name ≡ true
@@ -181,9 +158,6 @@ small-limits table es (g ∷ []) e =
     let most = and_parts (nat_le 1 count) (nat_le count 6) counted.0 in
     (subst (λ m. m ≤ 6) (length-map es (operation table)) (leb-true count 6 most.1), omega arith)
 small-limits table es (g ∷ k ∷ gs) e = absurd (false≢true e)
-
-le-true : (a b : ℕ) → a ≤ b → nat_le a b ≡ true
-le-true a b h = grind (arith, nat_tests)
 
 five : (a b c d e : Bool) → a ≡ true → b ≡ true → c ≡ true → d ≡ true → e ≡ true → (a && b && c && d && e) ≡ true
 five a b c d e p q r s t = rw (p, q, r, s, t) refl

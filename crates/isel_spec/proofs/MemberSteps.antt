@@ -31,21 +31,14 @@ use Rattle.isel_spec.specs.Form.{with_operation, with_goal, with_members, with_i
 use Rattle.isel_spec.specs.Items.{item_view}
 use Rattle.isel_spec.specs.Reading.{IsTermOf, KeepsTerms}
 use Rattle.isel_spec.specs.Tables.{file_so_far, HasFew, IsSoundSoFar, IsBody, IsAdded, IsRefused}
-use Rattle.isel_spec.proofs.Agreement.{Agree, StandsFor, parts_agree, bindings_agree, bind_related, bind_same}
+use Rattle.isel_spec.proofs.Agreement.{StandsFor, parts_agree, bindings_agree}
 use Rattle.isel_spec.proofs.Agreement.{members_agree, first_agrees, words_agree}
-use Rattle.isel_spec.proofs.Scopes.{append-nothing}
 use Rattle.isel_spec.proofs.Stays.{term-stays}
 use Rattle.isel_spec.proofs.TableGrowth.{and_operation, and_goal, one-more_op, one-more_goal}
 use Rattle.isel_spec.proofs.TableGrowth.{few-with_op, few-with_goal, few-without_op, few-without_goal}
-
-agree-none : {A B : Type 0} (R : A → B → Type 0) (p : Option B) → Agree R None p → p ≡ None
-agree-none R None r = refl
-agree-none R (Some b) r = absurd r
-
-agree-some : {A B : Type 0} (R : A → B → Type 0) (a : A) (p : Option B) → Agree R (Some a) p
-    → (b : B) × R a b × (p ≡ Some b)
-agree-some R a None r = absurd r
-agree-some R a (Some b) r = (b, r, refl)
+use Rattle.list_lemmas.proofs.Bools.{le_true as le-true, lt-true}
+use Rattle.list_lemmas.proofs.Lists.{append-nothing}
+use Rattle.list_lemmas.proofs.Options.{Agree, agree-none, agree-some, bind-last, bind_related, bind_same}
 
 where_some : {A : Type 0} (b : Bool) (x y : A) → where_true b x ≡ Some y → x ≡ y
 where_some true x y e = same_Some x y e
@@ -157,17 +150,6 @@ with_body Goal f parts body = with_goal f (record {
   results = body.1 ∷ [];
 })
 
-bind-last : {P B O F : Type 0} (o : Option P) (next : P → Option B) (make : P → B → O) (last : O → Option F)
-    → option_and_then last (option_and_then (λ p. option_and_then (λ b. Some (make p b)) (next p)) o)
-    ≡ option_and_then (λ p. option_and_then (λ b. last (make p b)) (next p)) o
-bind-last None next make last = refl
-bind-last {P} {B} {O} (Some p) next make last = inner (next p)
-  where
-    inner : (o : Option B) → option_and_then last (option_and_then (λ b. Some (make p b)) o)
-        ≡ option_and_then (λ b. last (make p b)) o
-    inner None = refl
-    inner (Some b) = refl
-
 -- what follows from the parts
 abbrev from_parts : Subject → File → Parts Tree → Option File
 from_parts subject f parts = option_and_then (with_body subject f parts) (body_in subject parts.args parts.result)
@@ -270,12 +252,6 @@ args_are : (scope : List Binding) → map (λ (b : Binding). b.1) scope
     ≡ map (λ (a : Kind × Sort). a.1) (map (λ (b : Binding). (kind.Reg, b.1)) scope)
 args_are [] = refl
 args_are (b ∷ scope) = ap (λ ss. b.1 ∷ ss) (args_are scope)
-
-le-true : (a b : ℕ) → a ≤ b → nat_le a b ≡ true
-le-true a b h = grind (arith, nat_tests)
-
-lt-true : (a b : ℕ) → a < b → nat_lt a b ≡ true
-lt-true a b h = grind (arith, nat_tests)
 
 sound-op : (table : Table) (name : List ℕ) (scope : List Binding) (at : TermId) → length scope ≤ 4
     → at.0 < length table.nodes → stays_in (map (λ (b : Binding). b.1) scope) (term_at table at) ≡ true

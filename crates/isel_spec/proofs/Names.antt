@@ -8,14 +8,7 @@ use Rattle.std.specs.Result.{result_ok}
 use denote.Ref.{Bor}
 use Rattle.std.proofs.lemmas.Bool.Decides.{nat_tests}
 use Rattle.isel_spec.specs.Text.{is_name, is_name_byte}
-
-and_left : (a b : Bool) → (a && b) ≡ true → a ≡ true
-and_left true b e = refl
-and_left false b e = e
-
-and_right : (a b : Bool) → (a && b) ≡ true → b ≡ true
-and_right true b e = e
-and_right false b e = cc
+use Rattle.list_lemmas.proofs.Bools.{and_left, and_right}
 
 name_byte_small : (b : ℕ) → is_name_byte b ≡ true → b < 128
 name_byte_small b e = grind (arith, nat_tests)

@@ -22,7 +22,7 @@ use Rattle.bv_terms.proofs.TableLemmas.{slice_get-terms_of}
 use Rattle.bv_terms.specs.Subterm.{IsSubterm}
 use Rattle.bv_terms.proofs.SubtermLemmas.{IsSubterm-itself, IsSubterm-through, argument-subterm}
 use Rattle.isel_spec.specs.Nodes.{Adds}
-use Rattle.isel_spec.proofs.Scopes.{map-take-more, only_one}
+use Rattle.list_lemmas.proofs.Lookups.{map-take-more, only_one}
 
 abbrev numbers : List TermId → List ℕ
 numbers nodes = map (λ (node : TermId). node.0) nodes
@@ -66,19 +66,6 @@ adds-push old cur nodes i node e adds new = record {
       (Contains-push (numbers (take i nodes)) node.0));
   distinct = λ d. IsDistinct-push nat_eq_equiv cur node.0 (adds.distinct d) new;
 }
-
-pub any-flip : (n : ℕ) (xs : List ℕ) → list_any (λ y. nat_eq y n) xs ≡ list_any (nat_eq n) xs
-any-flip n [] = refl
-any-flip n (x ∷ xs) = rw (nat_eq_equiv.symm x n, any-flip n xs) refl
-
-pub any-contains : (n : ℕ) (xs : List ℕ) → list_any (λ y. nat_eq y n) xs ≡ true → Contains xs n
-any-contains n [] e = absurd (false≢true e)
-any-contains n (x ∷ xs) e = by_first (nat_eq x n) refl e (any-contains n xs)
-  where
-    by_first : (b : Bool) → nat_eq x n ≡ b → (b || list_any (λ y. nat_eq y n) xs) ≡ true
-        → (list_any (λ y. nat_eq y n) xs ≡ true → Contains xs n) → Contains (x ∷ xs) n
-    by_first true same e rest = (zero, omega arith, (Decides-eqb x n).0 same)
-    by_first false same e rest = Contains-append_right (x ∷ []) xs n (rest e)
 
 -- ---- the nodes that a node leads to
 

@@ -15,6 +15,9 @@ use Rattle.std.proofs.lemmas.Option.{none-some, same_Some}
 use Rattle.std.proofs.lemmas.Bool.Decides.{nat_tests}
 use Rattle.isel_spec.specs.Text.{each}
 use Rattle.isel_spec.specs.Form.{Binding, differ, scope_of}
+use Rattle.list_lemmas.proofs.Bools.{and_false, and_parts as and_true, false_unless}
+use Rattle.list_lemmas.proofs.Lists.{append-nothing}
+use Rattle.list_lemmas.proofs.Lookups.{any_name, only_one}
 
 -- ---- what each gives, one after another
 
@@ -35,26 +38,11 @@ pub each-stop : {B : Type 0} (f : ℕ → Option B) (xs : List ℕ) (i : ℕ) (d
     option_map (λ more. done ++ more) (each f (drop i xs)) ≡ None
 each-stop f xs i done h e = rw (drop-cons xs i 0, e) refl
 
-pub append-nothing : {B : Type 0} (xs : List B) → xs ++ [] ≡ xs
-append-nothing [] = refl
-append-nothing (x ∷ xs) = ap (λ ys. x ∷ ys) (append-nothing xs)
-
 pub each-end : {B : Type 0} (f : ℕ → Option B) (xs : List ℕ) (i : ℕ) (done : List B) → length xs ≤ i →
     option_map (λ more. done ++ more) (each f (drop i xs)) ≡ Some done
 each-end f xs i done h = rw (drop_all i xs) (ap Some (append-nothing done))
 
 -- ---- names that differ
-
-bytes_eq-same : (name : List ℕ) → bytes_eq name name ≡ true
-bytes_eq-same name = (bytes_eq-Decides name name).1 refl
-
-pub false_unless : (b : Bool) → (b ≡ true → ⊥) → b ≡ false
-false_unless true h = absurd (h refl)
-false_unless false h = refl
-
-pub and_true : (a b : Bool) → (a && b) ≡ true → (a ≡ true) × (b ≡ true)
-and_true true b e = (refl, e)
-and_true false b e = cc
 
 tidy : (a b : Bool) → not a ≡ true → b ≡ true → (not (a || false) && b) ≡ true
 tidy true b e f = cc
@@ -63,14 +51,6 @@ tidy false b e f = f
 or_true : (a b : Bool) → a ≡ true → (not a && b) ≡ false
 or_true true b e = refl
 or_true false b e = cc
-
-pub and_false : (a b : Bool) → b ≡ false → (a && b) ≡ false
-and_false true b e = e
-and_false false b e = refl
-
-pub any_name : (name : List ℕ) (names : List (List ℕ)) → Contains names name → list_any (bytes_eq name) names ≡ true
-any_name name names h =
-    or_at (list_any (bytes_eq name)) (bytes_eq name) refl (λ _ _. refl) names h.0 name h.1 (rw h.2 (bytes_eq-same name))
 
 pub differ-apart : (names : List (List ℕ)) (name : List ℕ) → differ names ≡ true → (Contains names name → ⊥)
     → differ (names ++ name ∷ []) ≡ true
@@ -82,10 +62,6 @@ differ-apart (n ∷ names) name e h =
     let both = and_true (not (list_any (bytes_eq n) names)) (differ names) e in
     let rest = differ-apart names name both.1 (λ c. h (Contains-append_right (n ∷ []) names name c)) in
     rw (any, other) (tidy (list_any (bytes_eq n) names) (differ (names ++ name ∷ [])) both.0 rest)
-
-pub only_one : {A : Type 0} (n name : A) → Contains (n ∷ []) name → n ≡ name
-only_one n name h = sym
-    (All-contains (λ x. x ≡ n) (n ∷ []) name (All-cons (λ x. x ≡ n) n [] refl (All-nil (λ x. x ≡ n))) h)
 
 pub differ-twice : (names : List (List ℕ)) (name : List ℕ) (more : List (List ℕ)) → Contains names name
     → differ (names ++ name ∷ more) ≡ false
@@ -134,12 +110,3 @@ pub apart-more : (done : List Binding) (b : Binding) → differ (map (λ (c : Bi
     differ (map (λ (c : Binding). c.0) (done ++ b ∷ [])) ≡ true
 apart-more done b e h = ap differ (names-append done (b ∷ [])) ∙ differ-apart (map (λ (c : Binding). c.0) done) b.0 e h
 
-map-take-suc : {A B : Type 0} (f : A → B) (xs : List A) (i : ℕ) (x : A) → slice_get xs i ≡ Some x
-    → map f (take (suc i) xs) ≡ map f (take i xs) ++ f x ∷ []
-map-take-suc f [] i x e = absurd (none-some x e)
-map-take-suc f (y ∷ xs) zero x e = ap (λ z. f z ∷ []) (same_Some y x e)
-map-take-suc f (y ∷ xs) (suc i) x e = ap (λ zs. f y ∷ zs) (map-take-suc f xs i x e)
-
-pub map-take-more : {A B : Type 0} (f : A → B) (xs : List A) (i : ℕ) (x : A) → slice_get xs i ≡ Some x
-    → map f (take (i + 1) xs) ≡ map f (take i xs) ++ f x ∷ []
-map-take-more f xs i x e = rw (add-one) (map-take-suc f xs i x e)

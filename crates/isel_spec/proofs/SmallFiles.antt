@@ -21,25 +21,12 @@ use Rattle.isel_spec.specs.Form.{arg_in}
 use Rattle.isel_spec.specs.Form.{goal_arg_in, binding_in, scope_of, list_of, tree_view, first_of, two_of, three_of}
 use Rattle.isel_spec.specs.Form.{pointer_in, members_in, word_in, parts_in, differ, term_of, headed_in, body_in}
 use Rattle.isel_spec.specs.Form.{operation_in, goal_in, with_operation, with_goal, with_members, with_item, with_items}
-
--- what a chain of steps that may fail gave, its first step gave
-bind_some : {A B : Type 0} (o : Option A) (f : A → Option B) (y : B) → option_and_then f o ≡ Some y
-    → (x : A) × (o ≡ Some x) × (f x ≡ Some y)
-bind_some None f y h = cc
-bind_some (Some x) f y h = (x, refl, h)
+use Rattle.list_lemmas.proofs.Lookups.{AllByRecursion-push as all-push}
+use Rattle.list_lemmas.proofs.Options.{bind_some, if_some, option_map-some as map_some}
 
 where_some : {A : Type 0} (b : Bool) (x y : A) → where_true b x ≡ Some y → (b ≡ true) × (x ≡ y)
 where_some true x y h = (refl, cc)
 where_some false x y h = cc
-
-map_some : {A B : Type 0} (f : A → B) (o : Option A) (y : B) → option_map f o ≡ Some y
-    → (x : A) × (o ≡ Some x) × (f x ≡ y)
-map_some f None y h = cc
-map_some f (Some x) y h = (x, refl, cc)
-
-if_some : {A : Type 0} (b : Bool) (o : Option A) (y : A) → (if b then o else None) ≡ Some y → o ≡ Some y
-if_some true o y h = h
-if_some false o y h = cc
 
 -- ---- the sorts are those of bit-vectors
 
@@ -155,11 +142,6 @@ goal_plain trees g h =
 record IsPlainFile (f : File) : Type 0 where
   ops : AllByRecursion IsPlainOp f.ops
   goals : AllByRecursion IsPlainGoal f.goals
-
-all-push : {A : Type 0} (P : A → Type 0) (xs : List A) (x : A) → AllByRecursion P xs → P x
-    → AllByRecursion P (xs ++ x ∷ [])
-all-push P [] x h p = (p, tt)
-all-push P (y ∷ ys) x h p = (h.0, all-push P ys x h.1 p)
 
 members_plain : (s : Subject) (f g : File) (trees : List Tree) → with_members s f trees ≡ Some g → IsPlainFile f
     → IsPlainFile g

@@ -22,14 +22,9 @@ use Rattle.isel_spec.specs.declared.spec.Spec.{Spec}
 use Rattle.isel_spec.specs.File.{Goal, operation, goal, scope, stays_in, all_stay_in, are_sound, is_between}
 use Rattle.isel_spec.specs.File.{is_sound_op, is_sound_goal}
 use Rattle.isel_spec.specs.Spec.{file}
+use Rattle.list_lemmas.proofs.Lookups.{list_all_at}
 
 -- ---- the parts of the test
-
-list_all_at : {X : Type 0} (p : X → Bool) (xs : List X) (k : ℕ) (x : X) → list_all p xs ≡ true
-    → slice_get xs k ≡ Some x → p x ≡ true
-list_all_at p [] k x h e = absurd (cc)
-list_all_at p (y ∷ ys) zero x h e = let s : y ≡ x = cc in ap p (sym s) ∙ (and_parts (p y) (list_all p ys) h).0
-list_all_at p (y ∷ ys) (suc k) x h e = list_all_at p ys k x (and_parts (p y) (list_all p ys) h).1 e
 
 -- a sound operation has at most four arguments, a result, and results of its own inputs
 pub record IsSoundOp (table : Table) (e : List ℕ × OpDef) : Type 0 where
@@ -142,11 +137,6 @@ pub scope_bare : (d : OpDef) → d.attrs ≡ [] → scope d ≡ d.args
 scope_bare d e = ap (λ ws. d.args ++ map (λ w. sort.Bits w) ws) e ∙ append-nil d.args
 
 -- ---- the goal and the operation of a file in the place of a definition
-
--- what a call of `get` says, at the pair that it gave
-pub looked_up : {A B : Type 0} (f : A → B) (r : Option A) (x : A) (o : Option B) → option_map f r ≡ o → r ≡ Some x
-    → o ≡ Some (f x)
-looked_up f r x o e h = sym e ∙ ap (option_map f) h
 
 pub operation_is : (s : Spec) (k : ℕ) (name : List ℕ) (d : OpDef) → slice_get s.ops k ≡ Some (name, d)
     → slice_get (file s).ops k ≡ Some (operation s.terms (name, d))

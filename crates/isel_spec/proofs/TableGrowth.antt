@@ -21,23 +21,9 @@ use Rattle.isel_spec.specs.File.{is_sound_goal}
 use Rattle.isel_spec.specs.Form.{HasFewTerms}
 use Rattle.isel_spec.specs.Reading.{KeepsTerms}
 use Rattle.isel_spec.specs.Tables.{file_so_far, HasFew, IsSoundSoFar}
-use Rattle.isel_spec.proofs.Scopes.{only_one}
-
-lt-true : (a b : ℕ) → a < b → nat_lt a b ≡ true
-lt-true a b h = grind (arith, nat_tests)
-
-both : (a b : Bool) → a ≡ true → b ≡ true → (a && b) ≡ true
-both true b e f = f
-both false b e f = e
-
-map-push : {A B : Type 0} (f : A → B) (xs : List A) (x : A) → map f (xs ++ x ∷ []) ≡ map f xs ++ f x ∷ []
-map-push f [] x = refl
-map-push f (y ∷ ys) x = ap (λ zs. f y ∷ zs) (map-push f ys x)
-
-all-push : {A : Type 0} (p : A → Bool) (xs : List A) (x : A) → list_all p xs ≡ true → p x ≡ true
-    → list_all p (xs ++ x ∷ []) ≡ true
-all-push p xs x h k =
-    list_all-append p xs (x ∷ []) ∙ both (list_all p xs) (list_all p (x ∷ [])) h (both (p x) true k refl)
+use Rattle.list_lemmas.proofs.Bools.{and-both as both, lt-true}
+use Rattle.list_lemmas.proofs.Lists.{map-push}
+use Rattle.list_lemmas.proofs.Lookups.{list_all-push as all-push, only_one}
 
 -- ---- what stood in the tables stays
 

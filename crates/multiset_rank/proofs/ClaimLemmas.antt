@@ -6,12 +6,13 @@ use Rattle.std.specs.List.{flat_map, range_with_len}
 use Rattle.std.specs.declared.cmp.Ordering.TheVariants.{Less, Equal}
 use Rattle.multiset_rank.specs.Multisets.{multisets, never_falls, StandsAt}
 use Rattle.multiset_rank.specs.Claims.{Plan, IsInPlan, claims, claims_of_size, claim_cmp, AreClaims}
-use Rattle.multiset_rank.proofs.ListLemmas.{In, In-from_Contains, Contains-from_In, In-slice_get, In-map, In_of_map}
-use Rattle.multiset_rank.proofs.ListLemmas.{In-flat_map, In_of_flat_map, In-range, In_of_range, IsOrdered}
-use Rattle.multiset_rank.proofs.ListLemmas.{IsOrdered-map, IsOrdered-flat_map, IsOrdered-range, AllPairs-from_ordered}
-use Rattle.multiset_rank.proofs.ListLemmas.{once_in_order}
-use Rattle.multiset_rank.proofs.TupleLemmas.{Before, nat_cmp-same, nat_cmp-less, slice_cmp-same, multisets-ordered}
+use Rattle.multiset_rank.proofs.TupleLemmas.{multisets-ordered}
 use Rattle.multiset_rank.proofs.TupleLemmas.{In_of_multisets, In-multisets}
+use Rattle.list_lemmas.proofs.Members.{Contains-from_In, In, In-flat_map, In-from_Contains, In-map, In-range}
+use Rattle.list_lemmas.proofs.Members.{In-slice_get, In_of_flat_map, In_of_map, In_of_range}
+use Rattle.list_lemmas.proofs.Orders.{AllPairs-from_ordered, Before, IsOrdered, IsOrdered-flat_map, IsOrdered-map}
+use Rattle.list_lemmas.proofs.Orders.{IsOrdered-range, IsOrdered-within, nat_cmp-less, nat_cmp-same, once_in_order}
+use Rattle.list_lemmas.proofs.Orders.{slice_cmp-same}
 
 pub claims_of_size-flat_map : (p : Plan) (s : ℕ)
     → claims_of_size p s ≡ flat_map (λ goal. map (λ xs. (goal, xs)) (multisets p.kinds s)) (range_with_len 0 p.goals)
@@ -54,12 +55,6 @@ In-size p s goal xs l h =
 
 long : (p : Plan) (s : ℕ) (xs : List ℕ) → In (multisets p.kinds s) xs → length xs ≡ s
 long p s xs h = (In_of_multisets p.kinds s xs h).0
-
-IsOrdered-within : {X : Type 0} (R S : X → X → Type 0) (xs : List X) → ((x y : X) → In xs x → In xs y → R x y → S x y)
-    → IsOrdered R xs → IsOrdered S xs
-IsOrdered-within R S [] k h = tt
-IsOrdered-within R S (x ∷ xs) k h =
-    (λ y i. k x y (inl refl) (inr i) (h.0 y i), IsOrdered-within R S xs (λ a b i j. k a b (inr i) (inr j)) h.1)
 
 -- of one size
 abbrev Follows : List ℕ → List ℕ → Type 0

@@ -4,6 +4,7 @@ use Rattle.std.proofs.Math.Nat.{mul-div_cancel_left, pow-suc, pow-le-pow_right}
 use Rattle.std.proofs.lemmas.Nat.{mul-le}
 use Rattle.multiset_rank.specs.Binomial.{choose}
 use Rattle.multiset_rank.specs.Rising.{multichoose}
+use Rattle.list_lemmas.proofs.Numbers.{exact_quotient as exact}
 
 choose_none : (n k : ℕ) → n < k → choose n k ≡ 0
 unfolding choose
@@ -76,9 +77,6 @@ multichoose_below n (suc s) l =
 pub multichoose_small : (n s : ℕ) → n ≤ 65 → s ≤ 6 → multichoose n s ≤ 70 ^ 6
 multichoose_small n s k l = let a = multichoose_below n s (omega arith) in let b : 70 ^ s ≤ 70 ^ 6 =
     pow-le-pow_right {n = 70} (omega arith) l in omega (arith, a, b)
-
-exact : (d p x : ℕ) → 0 < d → d * x ≡ p → p / d ≡ x
-exact d p x l e = ap (λ q. q / d) (sym e) ∙ mul-div_cancel_left x l
 
 pub next_size_exact : (n s w : ℕ) → w ≡ multichoose n s → w * (n + s) / (s + 1) ≡ multichoose n (s + 1)
 next_size_exact n s w e =

@@ -1,6 +1,5 @@
 pub mod CountLemmas
 pub mod PaddedLemmas
-pub mod ListLemmas
 pub mod RisingLemmas
 pub mod TupleLemmas
 pub mod PlaceLemmas

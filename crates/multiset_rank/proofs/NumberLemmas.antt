@@ -10,45 +10,10 @@ use Rattle.multiset_rank.specs.Multisets.{multisets}
 use Rattle.multiset_rank.specs.Claims.{Plan, IsPlan, IsInPlan, claims, claims_of_size, claim_count}
 use Rattle.multiset_rank.specs.Rising.{multichoose}
 use Rattle.multiset_rank.proofs.CountLemmas.{multichoose-zero, multichoose-more, multichoose_of_choose}
-use Rattle.multiset_rank.proofs.ListLemmas.{slice_get-append_left, slice_get-append_right}
 use Rattle.multiset_rank.proofs.PlaceLemmas.{length-multisets}
 use Rattle.multiset_rank.proofs.ClaimLemmas.{claims_of_size-flat_map, claims-flat_map, of_goal}
-
--- blocks side by side
-blocks_from : {X : Type 0} (f : ℕ → List X) (a s n r q : ℕ) → s < n → r < length (f (a + s))
-    → q ≡ length (flat_map f (range_with_len a s)) + r
-    → slice_get (flat_map f (range_with_len a n)) q ≡ slice_get (f (a + s)) r
-blocks_from f a s zero r q l h e = absurd (omega (arith, l))
-blocks_from f a zero (suc n) r q l h e =
-    let z = add-zero a in
-    let same : q ≡ r = omega (arith, e) in
-    let within : q < length (f a) =
-    subst (λ b. q < length (f b)) z (subst (λ t. t < length (f (a + 0))) (sym same) h) in
-    slice_get-append_left (f a) (flat_map f (range_with_len (a + 1) n)) q within
-    ∙ (λ i. slice_get (f (sym z i)) (same i))
-blocks_from f a (suc s) (suc n) r q l h e =
-    let z : a + 1 + s ≡ a + suc s = omega arith in
-    let rest = length (flat_map f (range_with_len (a + 1) s)) + r in
-    let more = length-append (f a) (flat_map f (range_with_len (a + 1) s)) in
-    slice_get-append_right (f a) (flat_map f (range_with_len (a + 1) n)) rest q (omega (arith, e, more))
-    ∙ blocks_from f (a + 1) s n r rest (omega arith) (subst (λ b. r < length (f b)) (sym z) h) refl
-    ∙ ap (λ b. slice_get (f b) r) z
-
-pub block_at : {X : Type 0} (f : ℕ → List X) (s n r q : ℕ) → s < n → r < length (f s)
-    → q ≡ length (flat_map f (range_with_len 0 s)) + r
-    → slice_get (flat_map f (range_with_len 0 n)) q ≡ slice_get (f s) r
-block_at f s n r q l h e =
-    let z = zero-add s in
-    blocks_from f 0 s n r q l (subst (λ b. r < length (f b)) (sym z) h) e ∙ ap (λ b. slice_get (f b) r) z
-
-pub equal_blocks : {X : Type 0} (f : ℕ → List X) (each : ℕ) → ((x : ℕ) → length (f x) ≡ each) → (a n : ℕ)
-    → length (flat_map f (range_with_len a n)) ≡ n * each
-equal_blocks f each h a zero = omega arith
-equal_blocks f each h a (suc n) =
-    let first = h a in
-    let more = equal_blocks f each h (a + 1) n in
-    let all = length-append (f a) (flat_map f (range_with_len (a + 1) n)) in
-    omega (arith, first, more, all)
+use Rattle.list_lemmas.proofs.Lists.{equal_blocks}
+use Rattle.list_lemmas.proofs.Lookups.{block_at, slice_get-append_left, slice_get-append_right}
 
 length-goal : (p : Plan) (s goal : ℕ) → length (of_goal p s goal) ≡ multichoose p.kinds s
 length-goal p s goal = length-map (multisets p.kinds s) (λ xs. (goal, xs)) ∙ length-multisets p.kinds s

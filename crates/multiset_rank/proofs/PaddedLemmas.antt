@@ -6,12 +6,8 @@ use Rattle.std.proofs.lemmas.Bool.Decides.{nat_tests}
 use Rattle.std.proofs.lemmas.List.{take_at}
 use Rattle.multiset_rank.specs.Multisets.{never_falls}
 use Rattle.multiset_rank.specs.Rising.{padded}
-
-pub le_true : (x y : ℕ) → x ≤ y → nat_le x y ≡ true
-le_true x y l = grind (arith, nat_tests)
-
-pub le_false : (x y : ℕ) → y < x → nat_le x y ≡ false
-le_false x y l = grind (arith, nat_tests)
+use Rattle.list_lemmas.proofs.Bools.{le_true}
+use Rattle.list_lemmas.proofs.Numbers.{le_false}
 
 pub falls_at : (xs : List ℕ) (i d : ℕ) → suc i < length xs → get_or xs (suc i) d < get_or xs i d
     → never_falls (drop i xs) ≡ false

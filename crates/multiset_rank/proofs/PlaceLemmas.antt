@@ -14,10 +14,11 @@ use Rattle.multiset_rank.specs.Multisets.{multisets, never_falls, AreBelow}
 use Rattle.multiset_rank.specs.Rising.{multichoose, rising, padded}
 use Rattle.multiset_rank.proofs.CountLemmas.{multichoose-zero, multichoose_small}
 use Rattle.multiset_rank.proofs.PaddedLemmas.{padded-push, take-padded}
-use Rattle.multiset_rank.proofs.ListLemmas.{option_map-map}
 use Rattle.multiset_rank.proofs.RisingLemmas.{rising-zero, length-rising, is_below, multichoose-split, first_stands}
 use Rattle.multiset_rank.proofs.RisingLemmas.{later_stands, skipped_stands}
 use Rattle.multiset_rank.proofs.TupleLemmas.{multisets_are_rising, multiset_at, follows-zero}
+use Rattle.list_lemmas.proofs.Bools.{le-from_test}
+use Rattle.list_lemmas.proofs.Options.{option_map-map, option_map-same}
 
 pub length-multisets : (m s : ℕ) → length (multisets m s) ≡ multichoose m s
 length-multisets m s = ap length (multisets_are_rising m s) ∙ length-rising 0 m s
@@ -63,10 +64,6 @@ pub record IsUnranked (kinds size number place from rest : ℕ) (places : List �
       ≡ option_map (λ xs. take place places ++ xs) (slice_get (rising from (kinds - from) (size - place)) rest)
   pub zeros : places ≡ padded (take place places)
   pub full : length (take place places) ≡ place
-
-option_map-same : {X : Type 0} (f : X → X) → ((x : X) → f x ≡ x) → (o : Option X) → o ≡ option_map f o
-option_map-same f e None = refl
-option_map-same f e (Some x) = ap Some (sym (e x))
 
 pub unranked_start : (kinds size number : ℕ) → number < length (multisets kinds size)
     → IsUnranked kinds size number 0 0 number (padded [])
@@ -143,9 +140,6 @@ unranked_rises kinds size number xs e = (multiset_at kinds size number xs e).2
 abbrev pub Climbs : ℕ → ℕ → List ℕ → Type 0
 Climbs k m [] = Unit {0}
 Climbs k m (x ∷ xs) = (k ≤ x) × (x < m) × Climbs x m xs
-
-le-from_test : (x y : ℕ) → nat_le x y ≡ true → x ≤ y
-le-from_test x y h = grind (arith, nat_tests)
 
 Climbs-from_follows : (k m : ℕ) (xs : List ℕ) → never_falls (k ∷ xs) ≡ true → AllByRecursion (λ x. x < m) xs
     → Climbs k m xs

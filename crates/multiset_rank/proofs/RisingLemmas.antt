@@ -7,7 +7,7 @@ use Rattle.std.proofs.lemmas.Option.{slice_get-map}
 use Rattle.std.proofs.lemmas.Bool.{cases_lt}
 use Rattle.multiset_rank.specs.Rising.{multichoose, rising}
 use Rattle.multiset_rank.proofs.CountLemmas.{multichoose-zero, multichoose-none, multichoose-more}
-use Rattle.multiset_rank.proofs.ListLemmas.{slice_get-append_left, slice_get-append_right}
+use Rattle.list_lemmas.proofs.Lookups.{slice_get-append_left, slice_get-append_right}
 
 pub rising-zero : (k n : ℕ) → rising k n 0 ≡ [] ∷ []
 unfolding rising

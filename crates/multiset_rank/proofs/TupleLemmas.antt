@@ -9,12 +9,15 @@ use Rattle.std.proofs.lemmas.Bool.Decides.{nat_tests}
 use Rattle.std.proofs.lemmas.List.Elements.{filter-append, filter_agree, All-from_recursion, recursion_from_All}
 use Rattle.multiset_rank.specs.Multisets.{never_falls, tuples, multisets, AreBelow, AreMultisets, StandsAt}
 use Rattle.multiset_rank.specs.Rising.{rising}
-use Rattle.multiset_rank.proofs.PaddedLemmas.{le_true, le_false}
-use Rattle.multiset_rank.proofs.ListLemmas.{In, In-from_Contains, Contains-from_In, In-slice_get, In-map, In_of_map}
-use Rattle.multiset_rank.proofs.ListLemmas.{In-filter, In_of_filter, In-flat_map, In_of_flat_map, In-range, In_of_range}
-use Rattle.multiset_rank.proofs.ListLemmas.{IsOrdered, IsOrdered-filter, IsOrdered-map, IsOrdered-flat_map}
-use Rattle.multiset_rank.proofs.ListLemmas.{IsOrdered-range, AllPairs-from_ordered, once_in_order}
 use Rattle.multiset_rank.proofs.RisingLemmas.{rising-zero, rising-none, rising-more}
+use Rattle.list_lemmas.proofs.Bools.{le_true}
+use Rattle.list_lemmas.proofs.Lists.{filter-flat_map}
+use Rattle.list_lemmas.proofs.Members.{Contains-from_In, In, In-filter, In-flat_map, In-from_Contains, In-map}
+use Rattle.list_lemmas.proofs.Members.{In-range, In-slice_get, In_of_filter, In_of_flat_map, In_of_map, In_of_range}
+use Rattle.list_lemmas.proofs.Numbers.{le_false}
+use Rattle.list_lemmas.proofs.Orders.{AllPairs-from_ordered, Before, Before-first, Before-same_first, Before-strict}
+use Rattle.list_lemmas.proofs.Orders.{IsOrdered, IsOrdered-filter, IsOrdered-flat_map, IsOrdered-map, IsOrdered-range}
+use Rattle.list_lemmas.proofs.Orders.{once_in_order}
 
 tuples-zero : (m : ℕ) → tuples m 0 ≡ [] ∷ []
 unfolding tuples
@@ -27,29 +30,6 @@ tuples-more m s = refl
 multisets-filter : (m s : ℕ) → multisets m s ≡ filter never_falls (tuples m s)
 unfolding multisets
 multisets-filter m s = refl
-
--- before in lexicographic order
-abbrev pub Before : List ℕ → List ℕ → Type 0
-Before xs ys = slice_cmp nat_cmp xs ys ≡ Less
-
-pub nat_cmp-same : (x : ℕ) → nat_cmp x x ≡ Equal
-nat_cmp-same x = grind (arith, nat_tests)
-
-pub nat_cmp-less : (x y : ℕ) → x < y → nat_cmp x y ≡ Less
-nat_cmp-less x y l = grind (arith, nat_tests)
-
-Before-same_first : (x : ℕ) (xs ys : List ℕ) → Before xs ys → Before (x ∷ xs) (x ∷ ys)
-Before-same_first x xs ys h = let e = nat_cmp-same x in rw e h
-
-Before-first : (x y : ℕ) (xs ys : List ℕ) → x < y → Before (x ∷ xs) (y ∷ ys)
-Before-first x y xs ys l = let e = nat_cmp-less x y l in rw e refl
-
-pub slice_cmp-same : (xs : List ℕ) → slice_cmp nat_cmp xs xs ≡ Equal
-slice_cmp-same [] = refl
-slice_cmp-same (x ∷ xs) = let e = nat_cmp-same x in rw e (slice_cmp-same xs)
-
-pub Before-strict : (xs : List ℕ) → Before xs xs → ⊥
-Before-strict xs h = let e = slice_cmp-same xs in absurd (cc)
 
 pub tuples-ordered : (m s : ℕ) → IsOrdered Before (tuples m s)
 tuples-ordered m zero = subst (IsOrdered Before) (sym (tuples-zero m)) (λ y i. absurd i, tt)
@@ -130,12 +110,6 @@ multiset_at m s place xs e = In_of_multisets m s xs (In-slice_get (multisets m s
 -- the lists that may follow a number
 abbrev pub follows : ℕ → List ℕ → Bool
 follows k xs = never_falls (k ∷ xs)
-
-filter-flat_map : {X Y : Type 0} (p : Y → Bool) (f : X → List Y) (xs : List X)
-    → filter p (flat_map f xs) ≡ flat_map (λ x. filter p (f x)) xs
-filter-flat_map p f [] = refl
-filter-flat_map p f (x ∷ xs) = filter-append p (f x) (flat_map f xs)
-    ∙ ap (λ ys. filter p (f x) ++ ys) (filter-flat_map p f xs)
 
 none_follow : (k x : ℕ) (ts : List (List ℕ)) → x < k → filter (follows k) (map (λ xs. x ∷ xs) ts) ≡ []
 none_follow k x [] l = refl

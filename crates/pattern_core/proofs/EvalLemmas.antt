@@ -18,7 +18,6 @@ use Rattle.std.proofs.Common.{All, Contains}
 use Rattle.std.proofs.lemmas.List.Elements.{All-head, All-tail}
 use Rattle.bv_terms.specs.Eval.{values_in, IsValued}
 use Rattle.bv_terms.specs.Table.{Table, terms_of, term_in, term_at}
-use Rattle.bv_terms.proofs.TableLemmas.{slice_get-append, slice_get-at_end}
 use Rattle.bv_terms.proofs.TermLemmas.{HaveSorts-at, value-sorted}
 use Rattle.isel_spec.specs.declared.definitions.OpDef.{OpDef}
 use Rattle.isel_spec.specs.declared.spec.Spec.{Spec}
@@ -31,6 +30,8 @@ use Rattle.pattern_core.specs.Pattern.{source_value, attr_values, op_results, ou
 use Rattle.pattern_core.specs.Pattern.{Pairwise, IsFitting, AreFitting}
 use Rattle.pattern_core.specs.Meaning.{IsNodeGiven}
 use Rattle.isel_spec.proofs.SpecLemmas.{operation_is, CanEval, CanEval-op}
+use Rattle.list_lemmas.proofs.Lookups.{mapped_at, slice_get-append_left as slice_get-append, slice_get-at_end}
+use Rattle.list_lemmas.proofs.Lookups.{some_at}
 
 -- ---- attributes
 
@@ -117,12 +118,6 @@ node-sorted f g nodes k inputs outs n o h fit there =
     (map (source_value inputs outs) n.args) (attr_values fit.operation.attrs n.attrs)
     (sources-sorted f g nodes k inputs outs h n.args fit.operation.args fit.args)
     (attributes-sorted fit.operation.attrs n.attrs fit.attrs))
-
-pub mapped_at : {A B : Type 0} (F : A → B) (xs : List A) (r : ℕ) (u : B) → slice_get (map F xs) r ≡ Some u
-    → (x : A) × (slice_get xs r ≡ Some x) × (F x ≡ u)
-mapped_at F [] r u e = absurd (cc)
-mapped_at F (x ∷ xs) zero u e = (x, refl, same_Some (F x) u e)
-mapped_at F (x ∷ xs) (suc r) u e = mapped_at F xs r u e
 
 result_fits : (s : Spec) (name : List ℕ) (d : OpDef) (vs : List Value) (r : ℕ) (u : Term) → CanEval s.terms vs d.results
     → slice_get (operation s.terms (name, d)).results r ≡ Some u → InputsFit vs u
@@ -260,11 +255,6 @@ pub CanEval-node : (s : Spec) (n : Node) (name : List ℕ) (d : OpDef) (k : ℕ)
 CanEval-node s n name d k inputs outs values results h same e as' v =
     let at : slice_get s.ops n.op ≡ Some (name, d) = ap (slice_get s.ops) (sym same) ∙ e in
     CanEval-op s k name d results values e as' (subst (HaveSorts (scope d)) (sym v) (h.sorted name d at))
-
-some_at : {A : Type 0} (xs : List A) (k : ℕ) → k < length xs → (x : A) × (slice_get xs k ≡ Some x)
-some_at [] k l = absurd (omega (arith, l))
-some_at (x ∷ xs) zero l = (x, refl)
-some_at (x ∷ xs) (suc k) l = some_at xs k (omega (arith, l))
 
 pub some_goal : (s : Spec) (k : ℕ) → k < length s.goals → (g : Goal) × (slice_get (file s).goals k ≡ Some g)
 some_goal s k l = some_at (file s).goals k (subst (λ m. k < m) (sym (length-map s.goals (goal s.terms))) l)

@@ -27,46 +27,7 @@ use Rattle.isel_spec.proofs.SpecLemmas.{operation_is, goal_is}
 
 -- ---- a test's answer
 
-pub never : {P : Type 0} (b : Bool) → b ≡ false → (b ≡ true) ↔ P → P → ⊥
-never b f h p = false≢true (sym f ∙ h.1 p)
-
-pub no_answer : {P : Type 0} → (P → ⊥) → (false ≡ true) ↔ P
-no_answer n = (λ t. absurd (false≢true t), λ p. absurd (n p))
-
-pub yes_answer : {P : Type 0} → P → (true ≡ true) ↔ P
-yes_answer p = (λ t. p, λ q. refl)
-
 -- ---- two lists with one image
-
-same-suc : {A B C : Type 0} (F : A → C) (G : B → C) (xs : List A) (ys : List B) (i : ℕ) (d : A) (e : B) → i < length xs
-    → i < length ys → F (get_or xs i d) ≡ G (get_or ys i e)
-    → map F (take i xs) ≡ map G (take i ys) → map F (take (suc i) xs) ≡ map G (take (suc i) ys)
-same-suc F G [] ys i d e l k s h = absurd (omega (arith, l))
-same-suc F G (x ∷ xs) [] i d e l k s h = absurd (omega (arith, k))
-same-suc F G (x ∷ xs) (y ∷ ys) zero d e l k s h = λ j. s j ∷ []
-same-suc F G (x ∷ xs) (y ∷ ys) (suc i) d e l k s h =
-    let first : F x ≡ G y = cc in
-    let rest : map F (take i xs) ≡ map G (take i ys) = cc in
-    let more = same-suc F G xs ys i d e (omega (arith, l)) (omega (arith, k)) s rest in
-    λ j. first j ∷ more j
-
-pub same-more : {A B C : Type 0} (F : A → C) (G : B → C) (xs : List A) (ys : List B) (i : ℕ) (d : A) (e : B)
-    → i < length xs → i < length ys → F (get_or xs i d) ≡ G (get_or ys i e)
-    → map F (take i xs) ≡ map G (take i ys) → map F (take (i + 1) xs) ≡ map G (take (i + 1) ys)
-same-more F G xs ys i d e l k s h = let n : suc i ≡ i + 1 =
-    omega arith in subst (λ m. map F (take m xs) ≡ map G (take m ys)) n (same-suc F G xs ys i d e l k s h)
-
-pub same-at : {A B C : Type 0} (F : A → C) (G : B → C) (xs : List A) (ys : List B) (i : ℕ) (d : A) (e : B)
-    → i < length xs → i < length ys → map F xs ≡ map G ys → F (get_or xs i d) ≡ G (get_or ys i e)
-same-at F G [] ys i d e l k h = absurd (omega (arith, l))
-same-at F G (x ∷ xs) [] i d e l k h = absurd (omega (arith, k))
-same-at F G (x ∷ xs) (y ∷ ys) zero d e l k h = cc
-same-at F G (x ∷ xs) (y ∷ ys) (suc i) d e l k h = let rest : map F xs ≡ map G ys =
-    cc in same-at F G xs ys i d e (omega (arith, l)) (omega (arith, k)) rest
-
-pub same-all : {A B C : Type 0} (F : A → C) (G : B → C) (xs : List A) (ys : List B) (i : ℕ) → length xs ≤ i
-    → length ys ≤ i → map F (take i xs) ≡ map G (take i ys) → map F xs ≡ map G ys
-same-all F G xs ys i l k h = ap (map F) (sym (take_all i xs l)) ∙ h ∙ ap (map G) (take_all i ys k)
 
 -- ---- numbers for widths
 

@@ -30,7 +30,10 @@ use Rattle.pattern_core.specs.declared.pattern.Pattern.{Pattern}
 use Rattle.pattern_core.specs.Pattern.{operation_sort, source_sort, IsWellFormed}
 use Rattle.pattern_core.specs.Order.{source_number, source_cmp, node_cmp, multiset, pattern_cmp, IsTotalOrderOf}
 use Rattle.bv_terms.proofs.TableLemmas.{length-terms_of}
-use Rattle.pattern_core.proofs.EvalLemmas.{mapped_at}
+use Rattle.list_lemmas.proofs.Lists.{Each}
+use Rattle.list_lemmas.proofs.Lookups.{each_from_places, list_all_at, mapped_at}
+use Rattle.list_lemmas.proofs.Options.{bind-first as is_some, cond-some as in_then}
+use Rattle.list_lemmas.proofs.Orders.{same_lists, then_first, then_second}
 
 -- ---- total and transitive
 
@@ -51,33 +54,6 @@ pattern_total =
     (on_total (λ (p : Pattern). p.results) (lists_total source_total))))
 
 -- ---- what is `Equal`
-
-then_first : (r s : Ordering) → ordering_then r s ≡ Equal → r ≡ Equal
-then_first Less s e = cc
-then_first Equal s e = refl
-then_first Greater s e = cc
-
-then_second : (r s : Ordering) → ordering_then r s ≡ Equal → s ≡ Equal
-then_second Less s e = cc
-then_second Equal s e = e
-then_second Greater s e = cc
-
--- the property of each element
-abbrev Each : {A : Type 0} → (A → Type 0) → List A → Type 0
-Each P [] = Unit {0}
-Each P (x ∷ xs) = P x × Each P xs
-
--- an order of elements is that of lists of them
-same_lists : {A : Type 0} (P : A → Type 0) (R : A → A → Ordering)
-    → ((x y : A) → P x → P y → R x y ≡ Equal → x ≡ y) → (xs ys : List A) → Each P xs → Each P ys
-    → slice_cmp R xs ys ≡ Equal → xs ≡ ys
-same_lists P R same [] [] a b e = refl
-same_lists P R same [] (y ∷ ys) a b e = cc
-same_lists P R same (x ∷ xs) [] a b e = cc
-same_lists P R same (x ∷ xs) (y ∷ ys) a b e =
-    let first = same x y a.0 b.0 (then_first (R x y) (slice_cmp R xs ys) e) in
-    let rest = same_lists P R same xs ys a.1 b.1 (then_second (R x y) (slice_cmp R xs ys) e) in
-    λ i. first i ∷ rest i
 
 -- a source that a goal of at most four arguments and nodes of at most three results have
 abbrev IsSmall : Src → Type 0
@@ -140,15 +116,6 @@ pub record IsLimited (f : File) (g : Goal) : Type 0 where
   pub sorted : Each (λ (t : Term). IsSome (sort_of t)) g.results
   pub results : (k : ℕ) (o : Operation) → slice_get f.ops k ≡ Some o → length o.results ≤ 3
 
-is_some : {A B : Type 0} (F : A → Option B) (x : Option A) (y : B) → option_and_then F x ≡ Some y
-    → (a : A) × (x ≡ Some a)
-is_some F None y e = absurd (cc)
-is_some F (Some a) y e = (a, refl)
-
-in_then : {A : Type 0} (b : Bool) (x : Option A) (y : A) → cond b x None ≡ Some y → x ≡ Some y
-in_then true x y e = e
-in_then false x y e = absurd (cc)
-
 small_result : (o : Option Operation) (result : ℕ) (t : Sort) → ((p : Operation) → o ≡ Some p → length p.results ≤ 3)
     → operation_sort o result ≡ Some t → result < 3
 small_result None result t few e = absurd (cc)
@@ -194,11 +161,6 @@ some_of : (ts : List Term) → Each (λ (t : Term). IsSome (sort_of t)) ts
 some_of [] all = tt
 some_of (t ∷ ts) all = (all.0, some_of ts all.1)
 
-each_from_places : {A : Type 0} (P : A → Type 0) (xs : List A) → ((k : ℕ) (x : A) → slice_get xs k ≡ Some x → P x)
-    → Each P xs
-each_from_places P [] h = tt
-each_from_places P (x ∷ xs) h = (h zero x refl, each_from_places P xs (λ k. h (suc k)))
-
 small_pattern : (f : File) (g : Goal) → IsLimited f g → (p : Pattern) → IsWellFormed f g p → IsSmallPattern p
 unfolding HasSmall
 small_pattern f g limits p wf = record {
@@ -219,12 +181,6 @@ is_total_order f g limits = record {
 }
 
 -- ---- what a `Spec` keeps
-
-list_all_at : {X : Type 0} (p : X → Bool) (xs : List X) (k : ℕ) (x : X) → list_all p xs ≡ true → slice_get xs k ≡ Some x
-    → p x ≡ true
-list_all_at p [] k x h e = absurd (cc)
-list_all_at p (y ∷ ys) zero x h e = let s : y ≡ x = cc in ap p (sym s) ∙ (and_parts (p y) (list_all p ys) h).0
-list_all_at p (y ∷ ys) (suc k) x h e = list_all_at p ys k x (and_parts (p y) (list_all p ys) h).1 e
 
 at_most_three : (table : Table) (e : List ℕ × OpDef) → is_sound_op table e ≡ true → length e.1.results ≤ 3
 at_most_three table e h =

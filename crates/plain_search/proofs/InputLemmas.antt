@@ -12,8 +12,9 @@ use Rattle.bv_terms.specs.declared.value.Value.{Value}
 use Rattle.bv_terms.specs.declared.value.Value.TheVariants as val
 use Rattle.bv_terms.specs.Sorts.{HasSort, HaveSorts, width_of}
 use Rattle.plain_search.specs.Cases.{value_numbered, inputs_numbered, value_number, inputs_number, input_at}
-use Rattle.plain_search.proofs.ListLemmas.{In}
 use Rattle.plain_search.proofs.ReadLemmas.{get_or-input_at}
+use Rattle.list_lemmas.proofs.Lists.{drop-map}
+use Rattle.list_lemmas.proofs.Members.{In}
 
 HasSort-numbered : (s : Sort) (n : ℕ) → (s ≡ sort.Mem → ⊥) → HasSort s (value_numbered s (n % 2 ^ width_of s))
 HasSort-numbered sort.Bool n h = tt
@@ -94,11 +95,6 @@ HaveSorts-drop [] [] (suc k) h = tt
 HaveSorts-drop [] (v ∷ vs) (suc k) h = absurd h
 HaveSorts-drop (s ∷ ss) [] (suc k) h = absurd h
 HaveSorts-drop (s ∷ ss) (v ∷ vs) (suc k) h = HaveSorts-drop ss vs k h.1
-
-drop-map : {X Y : Type 0} (f : X → Y) (xs : List X) (k : ℕ) → drop k (map f xs) ≡ map f (drop k xs)
-drop-map f xs zero = refl
-drop-map f [] (suc k) = refl
-drop-map f (x ∷ xs) (suc k) = drop-map f xs k
 
 -- as many sorts as places
 pub length-picked : (ss : List Sort) (vs : List Value) (ks : List ℕ) → HaveSorts ss (map (input_at vs) ks)

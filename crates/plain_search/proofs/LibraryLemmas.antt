@@ -23,18 +23,21 @@ use Rattle.plain_search.specs.Enumeration.{IsPlain, IsSearchable}
 use Rattle.plain_search.specs.Candidates.{IsWanted, result_in, places, tuples, input_pattern, operation_pattern}
 use Rattle.plain_search.specs.Candidates.{input_rules, operation_rules, rules_from}
 use Rattle.plain_search.specs.Cases.{cases_of, input_at, input_agrees, term_agrees}
-use Rattle.plain_search.proofs.ListLemmas.{In, In-from_Contains, Contains-from_In, In-slice_get, In-append_left}
-use Rattle.plain_search.proofs.ListLemmas.{In-append_right, In-append_cases, In-map, In_of_map, In-filter, In_of_filter}
-use Rattle.plain_search.proofs.ListLemmas.{IsOrdered, IsOrdered-filter, IsOrdered-map, IsOrdered-append}
 use Rattle.plain_search.proofs.ListLemmas.{IsRising-from_ordered}
 use Rattle.plain_search.proofs.TupleLemmas.{same_sort-true, same_sort-refl, slice_get-places_from, In-places_from}
 use Rattle.plain_search.proofs.TupleLemmas.{IsOrdered-places_from, Fit, Fit-from_tuples, In-tuples, IsBefore}
-use Rattle.plain_search.proofs.TupleLemmas.{IsOrdered-tuples, nat_cmp-lt, nat_cmp_itself}
+use Rattle.plain_search.proofs.TupleLemmas.{IsOrdered-tuples}
 use Rattle.plain_search.proofs.PatternLemmas.{IsCanonical-input, IsCanonical-operation, IsWellFormed-input}
 use Rattle.plain_search.proofs.PatternLemmas.{IsInputOf-from_well_formed, IsUsable, IsWellFormed-operation}
-use Rattle.plain_search.proofs.PatternLemmas.{one_of_length, IsOverInputs-from_well_formed}
+use Rattle.plain_search.proofs.PatternLemmas.{IsOverInputs-from_well_formed}
 use Rattle.plain_search.proofs.MemoryLemmas.{no_memory}
 use Rattle.plain_search.proofs.RuleLemmas.{decides_rule, GivesValue-input, GivesValue-operation}
+use Rattle.list_lemmas.proofs.Lists.{one_of_length}
+use Rattle.list_lemmas.proofs.Members.{Contains-from_In, In, In-append_cases, In-append_left, In-append_right}
+use Rattle.list_lemmas.proofs.Members.{In-filter, In-from_Contains, In-map, In-slice_get, In_of_filter, In_of_map}
+use Rattle.list_lemmas.proofs.Members.{if_in, in_if}
+use Rattle.list_lemmas.proofs.Orders.{IsOrdered, IsOrdered-append, IsOrdered-filter, IsOrdered-map}
+use Rattle.list_lemmas.proofs.Orders.{nat_cmp-less as nat_cmp-lt, nat_cmp-same as nat_cmp_itself}
 
 -- what the enumeration is given
 pub record IsTask (f : File) (g : Goal) (w : Wanted) : Type 0 where
@@ -111,14 +114,6 @@ gives_sort w o h = go (sort_of (result_in o.results)) h
 sort_given : (w : Wanted) (o : Operation) → sort_of (result_in o.results) ≡ Some w.sort
     → option_map_or (same_sort w.sort) (sort_of (result_in o.results)) false ≡ true
 sort_given w o h = ap (λ s. option_map_or (same_sort w.sort) s false) h ∙ same_sort-refl w.sort w.sort refl
-
-in_if : {X : Type 0} (b : Bool) (xs : List X) (x : X) → In (cond b xs []) x → (b ≡ true) × In xs x
-in_if true xs x h = (refl, h)
-in_if false xs x h = absurd h
-
-if_in : {X : Type 0} (b : Bool) (xs : List X) (x : X) → b ≡ true → In xs x → In (cond b xs []) x
-if_in true xs x e h = h
-if_in false xs x e h = cc
 
 -- a pattern of one of the operations that stand from the op-th place on
 abbrev IsFromOperation : Wanted → ℕ → List Operation → Pattern → Type 0

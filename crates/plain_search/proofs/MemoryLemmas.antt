@@ -15,7 +15,7 @@ use Rattle.bv_terms.specs.Sorts.{arity, same_sort, refusal, sort_unless, op_sort
 use Rattle.bv_terms.proofs.TermLemmas.{same_sort-true}
 use Rattle.isel_spec.specs.File.{Goal, stays_in}
 use Rattle.pattern_core.specs.Pattern.{HasNoMemory}
-use Rattle.plain_search.proofs.ListLemmas.{In, In-slice_get, In-from_Contains, Contains-from_In}
+use Rattle.list_lemmas.proofs.Members.{Contains-from_In, In, In-from_Contains, In-slice_get}
 
 same_unless : (f : Option MakeFault) (s t : Sort) → sort_unless f s ≡ Some t → s ≡ t
 same_unless (Some f) s t h = absurd (cc)

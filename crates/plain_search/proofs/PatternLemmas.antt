@@ -15,8 +15,9 @@ use Rattle.pattern_core.specs.Pattern.{source_sort, operation_sort, Pairwise, Is
 use Rattle.pattern_core.specs.Walk.{walk, IsCanonical}
 use Rattle.plain_search.specs.Enumeration.{IsPlain}
 use Rattle.plain_search.specs.Candidates.{input_pattern, operation_pattern}
-use Rattle.plain_search.proofs.ListLemmas.{In, In-from_Contains, Contains-from_In, In-slice_get, In_of_map}
 use Rattle.plain_search.proofs.TupleLemmas.{Fit}
+use Rattle.list_lemmas.proofs.Lists.{one_of_length}
+use Rattle.list_lemmas.proofs.Members.{Contains-from_In, In, In-from_Contains, In-slice_get, In_of_map}
 
 -- ---- canonical
 
@@ -153,11 +154,6 @@ no_attributes : (R : ℕ → ℕ → Type 0) (widths attrs : List ℕ) → width
 no_attributes R [] [] e h = refl
 no_attributes R [] (a ∷ attrs) e h = absurd h
 no_attributes R (w ∷ widths) attrs e h = cc
-
-pub one_of_length : {X : Type 0} (xs : List X) → length xs ≡ 1 → (x : X) × (xs ≡ x ∷ [])
-one_of_length [] h = absurd (omega (arith, h))
-one_of_length (x ∷ []) h = (x, refl)
-one_of_length (x ∷ (y ∷ ys)) h = absurd (omega (arith, h))
 
 -- an operation over inputs
 pub record IsOverInputs (f : File) (g : Goal) (s : Sort) (p : Pattern) : Type 0 where

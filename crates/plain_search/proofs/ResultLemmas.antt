@@ -22,12 +22,9 @@ use Rattle.plain_search.specs.Cases.{term_agrees}
 use Rattle.plain_search.specs.Results.{AreNodesOf}
 use Rattle.plain_search.proofs.ReadLemmas.{get_or-input_at}
 use Rattle.plain_search.proofs.InputLemmas.{inputs_number_lt, inputs_numbered-number}
+use Rattle.list_lemmas.proofs.Lookups.{All-one as all_one}
 
 -- ---- nodes
-
-pub all_one : {X : Type 0} (P : X → Type 0) (x : X) → P x → All P (x ∷ [])
-all_one P x h zero d l = h
-all_one P x h (suc k) d l = absurd (omega (arith, l))
 
 -- what a call of `subterms` says, where the table is known
 pub nodes_found : {T E : Type 0} (table : Table) (at : TermId) (items : T → List TermId) (r : Result T E)

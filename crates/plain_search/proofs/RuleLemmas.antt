@@ -19,9 +19,10 @@ use Rattle.pattern_core.specs.Pattern.{source_value, attr_values, op_results, pa
 use Rattle.plain_search.specs.declared.cases.Case.{Case}
 use Rattle.plain_search.specs.Cases.{same_value, input_at, inputs_numbered, case_numbered, cases_of}
 use Rattle.plain_search.specs.Candidates.{input_pattern, operation_pattern}
-use Rattle.plain_search.proofs.ListLemmas.{In, Contains-from_In, In-map, In_of_map, list_all_in, list_all_from_in}
 use Rattle.plain_search.proofs.InputLemmas.{HaveSorts-numbered, IsNumbered-from_sorts}
 use Rattle.plain_search.proofs.PatternLemmas.{IsUsable}
+use Rattle.list_lemmas.proofs.Members.{Contains-from_In, In, In-map, In_of_map, in_range, list_all_from_in}
+use Rattle.list_lemmas.proofs.Members.{list_all_in}
 
 pub same_value-true : (a b : Value) → same_value a b ≡ true → a ≡ b
 same_value-true (val.Bool true) (val.Bool b) h = ap (λ c. val.Bool c) (sym h)
@@ -45,13 +46,6 @@ same_value-refl a b e = subst (λ c. same_value a c ≡ true) e (same_value_itse
 
 abbrev pub case_at : Term → List Value → Case
 case_at t vs = record { inputs = record { values = vs }; result = value vs t }
-
-in_range : (a n k : ℕ) → k < n → In (range_with_len a n) (a + k)
-in_range a zero k h = absurd (omega arith)
-in_range a (suc n) zero h = inl (omega arith)
-in_range a (suc n) (suc k) h =
-    let later : (a + 1) + k ≡ a + suc k = omega arith in
-    inr (subst (In (range_with_len (a + 1) n)) later (in_range (a + 1) n k (omega arith)))
 
 pub passes_everywhere : (p : Case → Bool) (ss : List Sort) (t : Term) → list_all p (cases_of ss t) ≡ true
     → (vs : List Value) → HaveSorts ss vs → p (case_at t vs) ≡ true

@@ -32,9 +32,9 @@ use Rattle.plain_search.specs.declared.enumeration.Wanted.{Wanted}
 use Rattle.plain_search.specs.Enumeration.{IsPlain, IsSearchable}
 use Rattle.plain_search.specs.Candidates.{IsWanted, IsTried, result_in}
 use Rattle.plain_search.specs.Cases.{input_at, inputs_numbered, case_numbered, cases_of}
-use Rattle.plain_search.proofs.ListLemmas.{In, In-from_Contains, Contains-from_In, In-slice_get}
 use Rattle.plain_search.proofs.InputLemmas.{HaveSorts-numbered}
 use Rattle.plain_search.proofs.TupleLemmas.{Fit}
+use Rattle.list_lemmas.proofs.Members.{Contains-from_In, In, In-from_Contains, In-slice_get}
 
 -- ---- inputs of an operation over inputs of a goal
 

@@ -19,9 +19,9 @@ use Rattle.plain_search.specs.Candidates.{IsTried, places, tuples, result_in, op
 use Rattle.plain_search.specs.Candidates.{rules_from}
 use Rattle.plain_search.specs.Cases.{input_at, inputs_numbered, term_agrees}
 use Rattle.plain_search.proofs.InputLemmas.{HaveSorts-numbered}
-use Rattle.plain_search.proofs.ListLemmas.{In, In-from_Contains, Contains-from_In, In-slice_get}
 use Rattle.plain_search.proofs.TupleLemmas.{slice_get-places_from, Fit, Fit-from_tuples}
 use Rattle.plain_search.proofs.SoundLemmas.{length-sorts, HaveSorts-picked, places_within}
+use Rattle.list_lemmas.proofs.Members.{Contains-from_In, In, In-from_Contains, In-slice_get}
 
 -- an input of the result's sort, in the place that a loop has come to
 pub input_within : (w : Wanted) → IsTried w → (items : List ℕ) (cases : List Case) (i : ℕ)

@@ -9,8 +9,10 @@ use Rattle.bv_terms.specs.declared.value.Sort.{Sort}
 use Rattle.bv_terms.specs.declared.value.Sort.TheVariants as sort
 use Rattle.bv_terms.specs.Sorts.{same_sort}
 use Rattle.plain_search.specs.Candidates.{places_from, places, longer, tuples}
-use Rattle.plain_search.proofs.ListLemmas.{In, In-cond, In-append_left, In-append_right, In-append_cases, In-map}
-use Rattle.plain_search.proofs.ListLemmas.{In_of_map, IsOrdered, IsOrdered-map, IsOrdered-append}
+use Rattle.list_lemmas.proofs.Members.{In, In-append_cases, In-append_left, In-append_right, In-cond, In-map}
+use Rattle.list_lemmas.proofs.Members.{In_of_map, keeps_in, takes_in}
+use Rattle.list_lemmas.proofs.Orders.{IsOrdered, IsOrdered-append, IsOrdered-map, nat_cmp-less as nat_cmp-lt}
+use Rattle.list_lemmas.proofs.Orders.{nat_cmp-same as nat_cmp_itself}
 
 -- the test of sorts decides whether they are equal
 pub same_sort-true : (s t : Sort) → same_sort s t ≡ true → s ≡ t
@@ -33,14 +35,6 @@ pub same_sort-refl : (s t : Sort) → s ≡ t → same_sort s t ≡ true
 same_sort-refl s t e = subst (λ u. same_sort s u ≡ true) e (same_sort_itself s)
 
 -- ---- places
-
-keeps_in : {X : Type 0} (b : Bool) (z : X) (xs : List X) (x : X) → In xs x → In (cond b (z ∷ xs) xs) x
-keeps_in true z xs x h = inr h
-keeps_in false z xs x h = h
-
-takes_in : {X : Type 0} (b : Bool) (z : X) (xs : List X) → b ≡ true → In (cond b (z ∷ xs) xs) z
-takes_in true z xs e = inl refl
-takes_in false z xs e = cc
 
 -- a place from k on has the sort, and stands that far from k
 pub slice_get-places_from : (k : ℕ) (s : Sort) (ts : List Sort) (n : ℕ) → In (places_from k s ts) n
@@ -134,14 +128,6 @@ In-tuples inputs (s ∷ ss) (k ∷ ks) h =
 -- before in lexicographic order
 abbrev pub IsBefore : List ℕ → List ℕ → Type 0
 IsBefore a b = slice_cmp nat_cmp a b ≡ Less
-
-pub nat_cmp-lt : (a b : ℕ) → a < b → nat_cmp a b ≡ Less
-nat_cmp-lt a b h = cond-true (ltb a b) Less (cond (eqb a b) Equal Greater) (lt-ltb a b h)
-
-pub nat_cmp_itself : (a : ℕ) → nat_cmp a a ≡ Equal
-nat_cmp_itself a =
-    cond-false (ltb a a) Less (cond (eqb a a) Equal Greater) (le-ltb a a (omega arith))
-    ∙ cond-true (eqb a a) Equal Greater (eq-eqb a a refl)
 
 before_by_first : (a b : ℕ) (s t : List ℕ) → a < b → IsBefore (a ∷ s) (b ∷ t)
 before_by_first a b s t h = ap (λ o. ordering_then o (slice_cmp nat_cmp s t)) (nat_cmp-lt a b h)

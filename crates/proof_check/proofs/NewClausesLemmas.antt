@@ -15,15 +15,7 @@ use Rattle.cnf_core.proofs.Same.{AllSame, AllSame-sym, derived-same, same-Some, 
 use Rattle.cnf_core.proofs.Chains.{AreNewClauses-more}
 use Rattle.proof_check.specs.LitSet.{Literals}
 use Rattle.proof_check.proofs.LogLemmas.{Derives}
-
--- what holds of all of a list holds of its parts
-all-left : {X : Type 0} (P : X → Type 0) (xs ys : List X) → All P (xs ++ ys) → All P xs
-all-left P xs ys h k d b =
-    subst P (get_or_append_left xs ys d k b) (h k d (let n = length-append xs ys in omega (arith, n, b)))
-
-all-right : {X : Type 0} (P : X → Type 0) (xs ys : List X) → All P (xs ++ ys) → All P ys
-all-right P xs ys h k d b =
-    subst P (get_or-append-add xs ys k d) (h (length xs + k) d (let n = length-append xs ys in omega (arith, n, b)))
+use Rattle.list_lemmas.proofs.Lookups.{All-front as all-left, all-right}
 
 -- new beside two lists is new beside both together
 pub new_clause-append : (cs ds : List Clause) (c : List Lit) → IsNewClause cs c → IsNewClause ds c →

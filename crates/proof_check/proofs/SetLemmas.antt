@@ -6,11 +6,13 @@ use Rattle.std.proofs.lemmas.Bool.{false≢true}
 use Rattle.std.proofs.lemmas.List.Folds.{list_any_at}
 use Rattle.cnf_core.specs.declared.clause.Lit.{Lit}
 use Rattle.cnf_core.specs.Clause.{same_lit, contains, IsOver}
-use Rattle.cnf_core.proofs.Sets.{same_lit-true, same_lit-itself, same_lit-sym, or-right, contains-append, contains-head}
+use Rattle.cnf_core.proofs.Sets.{same_lit-true, same_lit-itself, same_lit-sym, contains-append, contains-head}
 use Rattle.cnf_core.proofs.Sets.{contains-left, contains-right}
 use Rattle.proof_check.specs.declared.marks.Marks.{Marks}
 use Rattle.proof_check.specs.Marks.{is_marked, KeepsMarks}
 use Rattle.proof_check.specs.LitSet.{Literals, literals_of, IsLitSet, AreDistinct}
+use Rattle.list_lemmas.proofs.Bools.{or-right}
+use Rattle.list_lemmas.proofs.Lookups.{read-within}
 
 -- the literals that pass a test
 pub contains-filter : (p : Lit → Bool) (c : List Lit) (l : Lit) → contains (filter p c) l ≡ (p l && contains c l)
@@ -39,11 +41,6 @@ pub set-marked : (variables : ℕ) (marks : Marks) (added : List Lit) (s : Liter
     (l : Lit) → contains s.lits l ≡ is_marked marks l
 set-marked variables marks added s kept e l = ap (λ (t : Literals). contains t.lits l) (sym e)
     ∙ literals-marked variables marks added kept l
-
-read-within : (xs : List Bool) (k : ℕ) → unwrap_or (slice_get xs k) false ≡ true → k < length xs
-read-within [] k e = absurd (false≢true e)
-read-within (x ∷ xs) zero e = omega arith
-read-within (x ∷ xs) (suc k) e = let h : k < length xs = read-within xs k e in omega arith
 
 -- a marked literal's variable is there
 pub marked-within : (variables : ℕ) (marks : Marks) (l : Lit) → length marks.positive.items ≡ variables →

@@ -8,8 +8,9 @@ use Rattle.cnf_core.specs.declared.clause.Clause.{Clause}
 use Rattle.cnf_core.specs.declared.log.Chain.{Chain}
 use Rattle.cnf_core.specs.Clause.{opposite, same_lit, contains, AreSame}
 use Rattle.cnf_core.specs.Resolution.{without, resolvent, step, after_steps, derived, clause}
-use Rattle.cnf_core.proofs.Sets.{and-both, contains-without, append-same, AreSame-itself}
+use Rattle.cnf_core.proofs.Sets.{contains-without, append-same, AreSame-itself}
 use Rattle.proof_check.specs.LitSet.{Literals}
+use Rattle.list_lemmas.proofs.Bools.{and-both}
 
 -- the literals of a clause put into a set
 pub record Adds (old new : Literals) (lits : List Lit) : Type 0 where

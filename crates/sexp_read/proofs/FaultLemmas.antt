@@ -19,24 +19,8 @@ use Rattle.sexp_read.specs.Fault.{open_after, open_lists, HasToken, StandsIn, pl
 use Rattle.sexp_read.specs.Progress.{IsFaultless}
 use Rattle.sexp_read.proofs.PartialLemmas.{open_lists-flatten}
 use Rattle.sexp_read.proofs.SpanLemmas.{IsFrom, tokens_from-from, Spans, tokens-span}
-
--- of two lists joined, an element stands in the first or in the second
-pub in-either : {X : Type 0} (xs ys before : List X) (x : X) (after : List X) → xs ++ ys ≡ before ++ x ∷ after →
-    ((more : List X) × (xs ≡ before ++ x ∷ more)) ⊎ ((front : List X) × (ys ≡ front ++ x ∷ after))
-in-either [] ys before x after e = inr (before, e)
-in-either (y ∷ xs) ys [] x after e = let same : y ≡ x = cc in inl (xs, ap (λ z. z ∷ xs) same)
-in-either {X} (y ∷ xs) ys (z ∷ before) x after e =
-    let same : y ≡ z = cc in
-    let rest : xs ++ ys ≡ before ++ x ∷ after = cc in
-    elim (in-either xs ys before x after rest) [
-      | inl found ↦ inl (found.0, ap (λ w. w ∷ xs) same ∙ ap (λ ws. z ∷ ws) found.1)
-      | inr found ↦ inr found
-    ]
-
-pub all-in-middle : {X : Type 0} (P : X → Type 0) (before : List X) (x : X) (after : List X)
-    → AllByRecursion P (before ++ x ∷ after) → P x
-all-in-middle P [] x after all = all.0
-all-in-middle P (y ∷ before) x after all = all-in-middle P before x after all.1
+use Rattle.list_lemmas.proofs.Lists.{append-split as in-either}
+use Rattle.list_lemmas.proofs.Lookups.{all-in-middle}
 
 -- the rest of faultless tokens is faultless after what they leave open
 pub faultless-rest : (opened : List ℕ) (before after : List Token) → IsFaultless opened (before ++ after)

@@ -14,9 +14,10 @@ use Rattle.sexp_read.specs.Token.{Token, Close, tokens}
 use Rattle.sexp_read.specs.Tree.{Tree, Word, Branch, Trees, End, Then, tree_tokens, flatten, tree_size, size}
 use Rattle.sexp_read.specs.Forest.{atom, list, places, tree_items, items_of, IsForest, IsReading, Denotes, DenoteAll}
 use Rattle.sexp_read.specs.Forest.{text_of, atom_in, atom_at, children_in, children_at}
-use Rattle.sexp_read.proofs.ListLemmas.{all-append, all-at, slice_get-middle, append-move}
 use Rattle.sexp_read.proofs.SpanLemmas.{Spans, tokens-span}
 use Rattle.sexp_read.proofs.TreeLemmas.{length-tree_items, length-items_of, tree_size-pos}
+use Rattle.list_lemmas.proofs.Lists.{append-move}
+use Rattle.list_lemmas.proofs.Lookups.{all-append, all-at, slice_get-middle}
 
 abbrev pub end_of : Tree → ℕ
 end_of (Word first word) = first + length word

@@ -1,7 +1,6 @@
 pub mod TreeLemmas
 pub mod PartialLemmas
 pub mod BuilderLemmas
-pub mod ListLemmas
 pub mod SpanLemmas
 pub mod ForestLemmas
 pub mod FaultLemmas

@@ -24,9 +24,9 @@ use Rattle.sexp_read.specs.Forest.{IsReading}
 use Rattle.sexp_read.specs.Fault.{open_lists, HasToken, StandsIn, place_of, IsFault, IsButForMemory}
 use Rattle.sexp_read.specs.Progress.{IsFaultless, HasBuilt, mode_of, BeganBefore, HasRead, HasClass, ReadsOn, Refuses}
 use Rattle.sexp_read.specs.Progress.{Holds, LeavesOpen}
-use Rattle.sexp_read.proofs.ListLemmas.{slice_range-more}
 use Rattle.sexp_read.proofs.FaultLemmas.{none-earlier, none-stands, trees-shallow, reading-unique, reading-faultless}
 use Rattle.sexp_read.proofs.FaultLemmas.{fault-unique}
+use Rattle.list_lemmas.proofs.Lookups.{slice_range-more}
 
 -- the rest of the bytes begins with the byte at the place
 pub rest-at : (bytes : List ℕ) (place b : ℕ) → slice_get bytes place ≡ Some b

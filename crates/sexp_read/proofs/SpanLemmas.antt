@@ -9,7 +9,7 @@ use Rattle.sexp_read.specs.declared.token.Class.{Class}
 use Rattle.sexp_read.specs.declared.token.Class.TheVariants.{Blank, LineFeed, Semicolon, Left, Right, Letter}
 use Rattle.sexp_read.specs.Token.{class_of, Token, Open, Close, Atom, Mode, Between, Comment, Within, mode_after}
 use Rattle.sexp_read.specs.Token.{word_in, tokens_at, tokens_from, tokens}
-use Rattle.sexp_read.proofs.ListLemmas.{all-append, all-weaker, drop-head, slice_range-more}
+use Rattle.list_lemmas.proofs.Lookups.{all-append, all-weaker, drop-head, slice_range-more}
 
 -- a parenthesis from a place on, or any word
 abbrev pub IsFrom : ℕ → Token → Type 0
@@ -45,12 +45,6 @@ tokens_from-from mode place (b ∷ bytes) =
     all-append (IsFrom place) (tokens_at mode (class_of b) place) _ (tokens_at-from mode (class_of b) place)
     (all-weaker (IsFrom (place + 1)) (IsFrom place) (is-from-earlier place) _
     (tokens_from-from (mode_after mode (class_of b) place b) (place + 1) bytes))
-
--- which bytes are parentheses
-chosen : {X : Type 0} (test : Bool) (x y z : X) → cond test x y ≡ z
-    → ((test ≡ true) × (x ≡ z)) ⊎ ((test ≡ false) × (y ≡ z))
-chosen true x y z e = inl (refl, e)
-chosen false x y z e = inr (refl, e)
 
 pub left-byte : (b : ℕ) → class_of b ≡ Left → b ≡ 40
 left-byte b e = grind (arith, nat_tests)

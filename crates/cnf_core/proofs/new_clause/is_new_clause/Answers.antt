@@ -1,9 +1,9 @@
 use Rattle.std.proofs.Common.{◌≡◌, not, sym, ap, ◌∙◌, subst}
 use Rattle.std.proofs.lemmas.Bool.{false≢true}
 use Rattle.cnf_core.specs.Clause.{is_tautology, is_subsumed}
-use Rattle.cnf_core.proofs.Sets.{not-not}
 use Rattle.cnf_core.proofs.NewClauseLemmas.{new_clause-from, not_tautology-from, not_subsumed-from}
 use Rattle.cnf_core.proofs.new_clause.is_new_clause.Goals as goal
+use Rattle.list_lemmas.proofs.Bools.{not-not}
 
 pub returns-then-not-is_tautology : goal.returns-then-not-is_tautology
 returns-then-not-is_tautology c =

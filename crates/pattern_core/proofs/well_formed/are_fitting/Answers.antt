@@ -1,8 +1,8 @@
 use Rattle.std.proofs.Common.{◌≡◌, [], get_or, Some, arith, slice_get}
 use Rattle.pattern_core.specs.declared.pattern.Node.{Node}
-use Rattle.pattern_core.proofs.FitLemmas.{never, no_answer, yes_answer}
 use Rattle.std.proofs.lemmas.Option.{slice_get-get_or, slice_get_within}
 use Rattle.pattern_core.proofs.well_formed.are_fitting.Goals as goal
+use Rattle.list_lemmas.proofs.Bools.{no_answer, not_by_test as never, yes_answer}
 
 pub returns-then-not-is_fitting : goal.returns-then-not-is_fitting
 returns-then-not-is_fitting c = λ g h.

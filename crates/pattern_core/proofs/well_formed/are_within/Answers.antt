@@ -1,6 +1,7 @@
 use Rattle.std.proofs.Common.{◌^◌, ◌<◌, arith}
-use Rattle.pattern_core.proofs.FitLemmas.{never, no_answer, Pairwise-length, Pairwise-at, Pairwise-more}
+use Rattle.pattern_core.proofs.FitLemmas.{Pairwise-length, Pairwise-at, Pairwise-more}
 use Rattle.pattern_core.proofs.well_formed.are_within.Goals as goal
+use Rattle.list_lemmas.proofs.Bools.{no_answer, not_by_test as never}
 
 pub returns-then-widths-numbers : goal.returns-then-widths-numbers
 returns-then-widths-numbers c =

@@ -6,8 +6,11 @@ use Rattle.isel_spec.specs.Spec.{file}
 use Rattle.pattern_core.specs.declared.pattern.Src.TheVariants.{Input}
 use Rattle.pattern_core.specs.Pattern.{source_sort}
 use Rattle.isel_spec.proofs.SpecLemmas.{IsSoundResult-goal}
-use Rattle.pattern_core.proofs.FitLemmas.{never, no_answer, yes_answer, same-more, same-at, same-all, goal_sorts}
+use Rattle.pattern_core.proofs.FitLemmas.{goal_sorts}
 use Rattle.pattern_core.proofs.well_formed.have_result_sorts.Goals as goal
+use Rattle.list_lemmas.proofs.Bools.{no_answer, not_by_test as never, yes_answer}
+use Rattle.list_lemmas.proofs.Lists.{same-all}
+use Rattle.list_lemmas.proofs.Lookups.{same-at, same-more}
 
 pub sort-requires : goal.sort-requires
 sort-requires c =

@@ -4,8 +4,9 @@ use Rattle.bv_terms.specs.declared.value.Sort.TheVariants as sort
 use Rattle.isel_spec.specs.Spec.{file}
 use Rattle.pattern_core.specs.declared.pattern.Src.TheVariants.{Input}
 use Rattle.pattern_core.specs.Pattern.{source_sort}
-use Rattle.pattern_core.proofs.FitLemmas.{never, no_answer, same-more, same-at}
 use Rattle.pattern_core.proofs.well_formed.have_sorts.Goals as goal
+use Rattle.list_lemmas.proofs.Bools.{no_answer, not_by_test as never}
+use Rattle.list_lemmas.proofs.Lookups.{same-at, same-more}
 
 pub returns-then-not-has_sort : goal.returns-then-not-has_sort
 returns-then-not-has_sort c = λ g h.

@@ -1,8 +1,9 @@
 use Rattle.pattern_core.specs.declared.pattern.Src.TheVariants.{Input}
 use Rattle.pattern_core.specs.Pattern.{IsOf}
-use Rattle.pattern_core.proofs.FitLemmas.{never, no_answer, none_among}
+use Rattle.pattern_core.proofs.FitLemmas.{none_among}
 use Rattle.std.proofs.lemmas.List.Elements.{All-more}
 use Rattle.pattern_core.proofs.well_formed.is_among.Goals as goal
+use Rattle.list_lemmas.proofs.Bools.{no_answer, not_by_test as never}
 
 pub loop-source-preserved : goal.loop-source-preserved
 loop-source-preserved c =

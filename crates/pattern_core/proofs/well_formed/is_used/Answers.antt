@@ -1,9 +1,10 @@
 use Rattle.std.proofs.Common.{get_or, sym, ap, ◌∙◌, subst}
 use Rattle.pattern_core.specs.declared.pattern.Node.{Node}
 use Rattle.pattern_core.specs.Pattern.{IsAmong}
-use Rattle.pattern_core.proofs.FitLemmas.{never, used-answer}
+use Rattle.pattern_core.proofs.FitLemmas.{used-answer}
 use Rattle.std.proofs.lemmas.List.Elements.{All-more}
 use Rattle.pattern_core.proofs.well_formed.is_used.Goals as goal
+use Rattle.list_lemmas.proofs.Bools.{not_by_test as never}
 
 pub loop-other-preserved : goal.loop-other-preserved
 loop-other-preserved c =

@@ -1,7 +1,7 @@
 use Rattle.std.proofs.Common.{◌^◌, ◌≤◌, arith}
-use Rattle.pattern_core.proofs.FitLemmas.{yes_answer}
 use Rattle.std.proofs.Math.Nat.{pow-le-pow_right}
 use Rattle.pattern_core.proofs.well_formed.is_within.Goals as goal
+use Rattle.list_lemmas.proofs.Bools.{yes_answer}
 
 pub returns-else-width-lt64 : goal.returns-else-width-lt64
 returns-else-width-lt64 c =

@@ -1,8 +1,9 @@
 use Rattle.std.proofs.Common.{◌<◌, length, ◌∙◌}
 use Rattle.plain_search.specs.declared.cases.Case.{Case}
 use Rattle.plain_search.specs.Cases.{input_at, same_value}
-use Rattle.plain_search.proofs.ReadLemmas.{here, same_value_read, list_all_goes_on, list_all_stops}
+use Rattle.plain_search.proofs.ReadLemmas.{same_value_read}
 use Rattle.plain_search.proofs.cases.does_input_agree.Goals as goal
+use Rattle.list_lemmas.proofs.Lookups.{All-at_place as here, list_all_goes_on, list_all_stops}
 
 pub loop-case-preserved : goal.loop-case-preserved
 loop-case-preserved c =

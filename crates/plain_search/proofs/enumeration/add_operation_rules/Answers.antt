@@ -9,8 +9,8 @@ use Rattle.plain_search.specs.Candidates.{tuples, operation_pattern}
 use Rattle.plain_search.specs.Cases.{term_agrees}
 use Rattle.plain_search.proofs.SoundLemmas.{IsOperationAt, IsOperationAt-from_definition}
 use Rattle.plain_search.proofs.TriedLemmas.{numbered_fit, no_operation_rules, operation_rules_are}
-use Rattle.plain_search.proofs.ReadLemmas.{not_empty}
 use Rattle.plain_search.proofs.enumeration.add_operation_rules.Goals as goal
+use Rattle.list_lemmas.proofs.Lists.{not_empty}
 
 pub first-result-requires : goal.first-result-requires
 first-result-requires c = let k = IsSoundOp_at c.args.spec.now c.args.op _ c.op-definition.ensures.1 in k.some

@@ -3,9 +3,9 @@ use Rattle.bv_terms.specs.declared.value.Value.{Value}
 use Rattle.bv_terms.specs.Sorts.{HaveSorts}
 use Rattle.plain_search.specs.declared.cases.Case.{Case}
 use Rattle.plain_search.specs.Cases.{input_at, inputs_number, same_value}
-use Rattle.plain_search.proofs.ReadLemmas.{here, list_all_goes_on, list_all_stops}
 use Rattle.plain_search.proofs.ResultLemmas.{table_read}
 use Rattle.plain_search.proofs.results.does_table_agree.Goals as goal
+use Rattle.list_lemmas.proofs.Lookups.{All-at_place as here, list_all_goes_on, list_all_stops}
 
 pub number_at-number-requires-clause-within : goal.number_at-number-requires-clause-within
 number_at-number-requires-clause-within c =

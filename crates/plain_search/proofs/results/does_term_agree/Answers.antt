@@ -5,8 +5,8 @@ use Rattle.bv_terms.specs.Sorts.{InputsFit}
 use Rattle.bv_terms.specs.Table.{term_at}
 use Rattle.plain_search.specs.declared.cases.Case.{Case}
 use Rattle.plain_search.specs.Cases.{input_at, same_value}
-use Rattle.plain_search.proofs.ReadLemmas.{here, list_all_goes_on, list_all_stops}
 use Rattle.plain_search.proofs.results.does_term_agree.Goals as goal
+use Rattle.list_lemmas.proofs.Lookups.{All-at_place as here, list_all_goes_on, list_all_stops}
 
 pub picked-requires : goal.picked-requires
 picked-requires c =

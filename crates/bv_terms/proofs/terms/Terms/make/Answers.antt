@@ -7,9 +7,10 @@ use Rattle.bv_terms.specs.Sorts.{sort_of}
 use Rattle.bv_terms.specs.Table.{Entry, Table, operands, terms_of, term_at, IsTable, Makes}
 use Rattle.bv_terms.specs.Node.{entry_of}
 use Rattle.bv_terms.proofs.TableLemmas.{term_at-node}
-use Rattle.bv_terms.proofs.TermTableLemmas.{found-node, missing-node, Contains-from_slice_get}
+use Rattle.bv_terms.proofs.TermTableLemmas.{found-node, missing-node}
 use Rattle.bv_terms.proofs.MakeLemmas.{arity-of_args, seen-as, padded-as, made-added, kept-added, term-added}
 use Rattle.bv_terms.proofs.terms.Terms.make.Goals as goal
+use Rattle.list_lemmas.proofs.Lookups.{Contains-from_slice_get}
 
 pub new-node-requires : goal.new-node-requires
 new-node-requires c =

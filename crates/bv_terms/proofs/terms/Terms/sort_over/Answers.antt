@@ -4,9 +4,11 @@ use Rattle.bv_terms.specs.declared.op.TermId.{TermId}
 use Rattle.bv_terms.specs.Term.{End}
 use Rattle.bv_terms.specs.Sorts.{sorts_of}
 use Rattle.bv_terms.specs.Table.{operands, terms_of}
-use Rattle.bv_terms.proofs.MakeLemmas.{empty_list, one_element, two_elements, sorts_of-end, sorts_of-then}
+use Rattle.bv_terms.proofs.MakeLemmas.{sorts_of-end, sorts_of-then}
 use Rattle.bv_terms.proofs.MakeLemmas.{fault-from_sorts, sort-from_sorts, refused_past_arity}
 use Rattle.bv_terms.proofs.terms.Terms.sort_over.Goals as goal
+use Rattle.list_lemmas.proofs.Lists.{empty_list}
+use Rattle.list_lemmas.proofs.Lookups.{one_element, two_elements}
 
 abbrev zeroth : TermId
 zeroth = record { 0 = 0 }

@@ -11,8 +11,9 @@ use Rattle.cdcl_core.specs.Propagation.{AreBlockers}
 use Rattle.cdcl_core.proofs.PropagationLemmas.{blockers-push}
 use Rattle.cdcl_core.specs.Search.{IsLogOf}
 use Rattle.cdcl_core.proofs.SearchLemmas.{have_reasons, greatest_level_start, level_start_within}
-use Rattle.cdcl_core.proofs.SearchLemmas.{propagated_at_level_start, log-more, on_ok_three, filled_by}
+use Rattle.cdcl_core.proofs.SearchLemmas.{propagated_at_level_start, log-more, filled_by}
 use Rattle.cdcl_core.proofs.search.Search.learn.Goals as goal
+use Rattle.list_lemmas.proofs.Options.{on_ok_three}
 
 pub analyze-requires-clause-reasons : goal.analyze-requires-clause-reasons
 analyze-requires-clause-reasons c =

@@ -3,9 +3,10 @@ use Rattle.std.specs.List.{list_any}
 use Rattle.std.proofs.lemmas.Option.{slice_get-get_or}
 use Rattle.bv_terms.specs.declared.op.TermId.{TermId}
 use Rattle.isel_spec.specs.Nodes.{Adds}
-use Rattle.isel_spec.proofs.NodeLemmas.{adds-skip, adds-push, any-flip, any-contains}
+use Rattle.isel_spec.proofs.NodeLemmas.{adds-skip, adds-push}
 use Rattle.isel_spec.proofs.small_form.few.add_new.Goals as goal
 use Rattle.isel_spec.proofs.small_form.few.add_new.Goals.{then-not-contains+in_ok-push, else-not-contains}
+use Rattle.list_lemmas.proofs.Lookups.{any-contains, any-flip}
 
 pub loop-node-preserved : goal.loop-node-preserved
 loop-node-preserved c =

@@ -1,8 +1,8 @@
 use Rattle.std.proofs.Common.{◌≡◌, ◌∷◌, [], ◌++◌, sym, ap, refl, ◌∙◌, Some}
 use Rattle.std.specs.List.{slice_get}
 use Rattle.isel_spec.specs.Form.{Binding}
-use Rattle.isel_spec.proofs.Scopes.{map-take-more}
 use Rattle.isel_spec.proofs.small_form.scope.sorts.Goals as goal
+use Rattle.list_lemmas.proofs.Lookups.{map-take-more}
 
 pub loop-place-preserved : goal.loop-place-preserved
 loop-place-preserved c =

@@ -1,8 +1,9 @@
 use Rattle.std.proofs.Common.{◌≡◌, List, ℕ, sym, ◌∙◌, refl, arith, Some}
 use Rattle.std.specs.List.{slice_get}
 use Rattle.isel_spec.specs.declared.definitions.GoalDef.{GoalDef}
-use Rattle.isel_spec.proofs.FileLemmas.{one-there, small-one}
+use Rattle.isel_spec.proofs.FileLemmas.{small-one}
 use Rattle.isel_spec.proofs.small_form.small.is_small.Goals as goal
+use Rattle.list_lemmas.proofs.Lookups.{one-there}
 
 pub returns : goal.returns
 returns c =

@@ -2,8 +2,8 @@ use Rattle.std.proofs.Common.{◌≡◌, ◌∷◌, [], ◌++◌, sym, ap, refl,
 use Rattle.std.specs.List.{slice_get}
 use Rattle.isel_spec.specs.declared.definitions.Kind.TheVariants.{Reg}
 use Rattle.isel_spec.specs.Form.{Binding}
-use Rattle.isel_spec.proofs.Scopes.{map-take-more}
 use Rattle.isel_spec.proofs.small_form.tables.registers.Goals as goal
+use Rattle.list_lemmas.proofs.Lookups.{map-take-more}
 
 pub loop-place-preserved : goal.loop-place-preserved
 loop-place-preserved c =

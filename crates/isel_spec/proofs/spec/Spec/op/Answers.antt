@@ -1,5 +1,5 @@
-use Rattle.isel_spec.proofs.SpecLemmas.{looked_up}
 use Rattle.isel_spec.proofs.spec.Spec.op.Goals as goal
+use Rattle.list_lemmas.proofs.Options.{looked_up}
 
 pub returns : goal.returns
 returns c = (
