@@ -1,7 +1,7 @@
 -- Which operations may stand over nodes, and what a table is once a node is made.
 use Rattle.std.proofs.Common.{◌-◌, take, replicate, inr, OnOk, OnErr, ◌≡◌, ℕ, suc, ◌<◌, ◌≤◌, Bool, true, false, cond}
-use Rattle.std.proofs.Common.{eqb, List, [], ◌∷◌, ◌++◌, length, slice_get, slice_index_or, unwrap_or, option_and_then}
-use Rattle.std.proofs.Common.{Option, None, Some, IsSome, Result, Ok, Err, MatchOption, MatchResult, IfOk, All}
+use Rattle.std.proofs.Common.{eqb, List, [], ◌∷◌, ◌++◌, length, slice_get, unwrap_or, option_and_then}
+use Rattle.std.proofs.Common.{Option, None, Some, Result, Ok, Err, MatchOption, MatchResult, IfOk, All}
 use Rattle.std.proofs.Common.{Contains, refl, sym, ap, ◌∙◌, subst, arith}
 use Rattle.std.specs.List.{AllByRecursion}
 use Rattle.std.proofs.lemmas.Bool.Decides.{nat_tests}

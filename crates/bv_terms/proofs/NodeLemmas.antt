@@ -1,5 +1,5 @@
 -- Equality of nodes is equality of operation and arguments.
-use Rattle.std.proofs.Common.{◌≡◌, Bool, true, false, ◌&&◌, refl, ap, ◌∙◌, rules, tests, Decides}
+use Rattle.std.proofs.Common.{◌≡◌, Bool, true, refl, ap, ◌∙◌, rules, tests, Decides}
 use Rattle.std.specs.Cmp.{IsEquivalence}
 use Rattle.bv_terms.specs.declared.op.Op.{Op}
 use Rattle.bv_terms.specs.declared.op.TermId.{TermId}

@@ -1,10 +1,9 @@
 -- The terms that a table denotes, node by node, and after a node is added.
-use Rattle.std.proofs.Common.{subst, Option, IsSome, ◌⊎◌, inl, inr, ⊎_elim, Contains, ◌≡◌, ℕ, zero, suc, ◌+◌, ◌<◌, List}
+use Rattle.std.proofs.Common.{subst, IsSome, ⊎_elim, Contains, ◌≡◌, ℕ, ◌+◌, ◌<◌, List}
 use Rattle.std.proofs.Common.{[], ◌∷◌, ◌++◌, length, slice_get, unwrap_or, Some, All, refl, sym, ap, ◌∙◌, arith}
 use Rattle.std.proofs.Common.{length-append}
 use Rattle.std.specs.List.{AllByRecursion}
 use Rattle.std.proofs.lemmas.List.Elements.{recursion_from_All}
-use Rattle.std.proofs.lemmas.Option.{get_or_from_slice_get, slice_get_within, same_Some}
 use Rattle.bv_terms.specs.declared.op.TermId.{TermId}
 use Rattle.bv_terms.specs.declared.value.Sort.{Sort}
 use Rattle.bv_terms.specs.Term.{Term, Apply, Then}

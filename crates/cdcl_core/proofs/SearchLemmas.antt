@@ -2,8 +2,8 @@
 -- longer log.
 use Rattle.std.proofs.Common.{◌≡◌, ◌≢◌, ℕ, zero, suc, ◌-◌, ◌<◌, ◌≤◌, ◌||◌, Bool, true, false, not, cond, List, [], ◌∷◌}
 use Rattle.std.proofs.Common.{◌++◌, refl, subst, sym, ap, ◌∙◌, arith, ◌⊎◌, inl, inr, take, take-take, length}
-use Rattle.std.proofs.Common.{length-append, get_or, slice_get, Option, Some, None, All, Contains, Result, Ok, Err}
-use Rattle.std.proofs.Common.{OnOk, Vec, Global}
+use Rattle.std.proofs.Common.{length-append, get_or, slice_get, Option, Some, None, All, Contains}
+use Rattle.std.proofs.Common.{Vec, Global}
 use Rattle.std.proofs.lemmas.Bool.{false≢true, cases_lt}
 use Rattle.std.proofs.lemmas.Option.{option_and_then_some, same_Some, none-some, slice_get_within}
 use Rattle.std.proofs.lemmas.Option.{get_or_from_slice_get, slice_get-get_or}

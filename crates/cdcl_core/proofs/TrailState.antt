@@ -1,9 +1,9 @@
 -- A trail with a literal assigned or cancelled keeps what each trail keeps, and so do the values beside it.
-use Rattle.std.proofs.Common.{◌≡◌, ℕ, ◌+◌, ◌-◌, ◌<◌, ◌≤◌, ◌==◌, ◌||◌, Bool, true, false, not, cond, List, [], ◌∷◌, ◌++◌}
+use Rattle.std.proofs.Common.{◌≡◌, ℕ, ◌+◌, ◌-◌, ◌<◌, ◌≤◌, ◌||◌, Bool, true, false, not, cond, List, [], ◌∷◌, ◌++◌}
 use Rattle.std.proofs.Common.{Option, Some, None, refl, subst, sym, ap, ◌∙◌, ◌⊎◌, inl, inr, All, Contains, slice_get}
 use Rattle.std.proofs.Common.{is_some, count_by, length, get_or, set, take, take-take, get_or-take, length-take-le}
 use Rattle.std.proofs.Common.{length-set, get_or-set_same, get_or-set_other, arith}
-use Rattle.std.proofs.lemmas.Bool.{false≢true, cases_lt, eqb-true, eqb-false}
+use Rattle.std.proofs.lemmas.Bool.{false≢true, cases_lt}
 use Rattle.std.proofs.lemmas.Option.{none-some, same_Some, slice_get_within, get_or_from_slice_get, slice_get-get_or}
 use Rattle.std.proofs.lemmas.List.{take-append-le, length_push}
 use Rattle.std.proofs.lemmas.List.Elements.{All-push, All-take, All-weaker, Contains-append_left, Contains-push}
@@ -16,7 +16,6 @@ use Rattle.cnf_core.proofs.Sets.{contains-right, contains-head}
 use Rattle.cdcl_core.specs.Trail.{HasDistinctVariables, Trail, IsTrail, IsUnassigned, IsCancelled}
 use Rattle.cdcl_core.specs.Values.{trail_of, is_value, makes_true, AreValues}
 use Rattle.cdcl_core.proofs.TrailLemmas.{decided, forced}
-use Rattle.list_lemmas.proofs.Bools.{true-or-false}
 use Rattle.list_lemmas.proofs.Lookups.{All-slice_get, slice_get-end, slice_get-front, slice_get-push}
 use Rattle.list_lemmas.proofs.Numbers.{equal-or-not}
 

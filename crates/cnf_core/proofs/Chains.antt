@@ -1,5 +1,5 @@
 -- Logs that grow: one more step of a chain, one more chain of a log.
-use Rattle.std.proofs.Common.{◌≡◌, ℕ, List, [], ◌∷◌, ◌++◌, Option, Some, None, refl, subst, sym, ap, ◌∙◌}
+use Rattle.std.proofs.Common.{◌≡◌, ℕ, List, [], ◌∷◌, ◌++◌, Some, None, refl, subst, sym, ap, ◌∙◌}
 use Rattle.std.proofs.Common.{option_and_then}
 use Rattle.std.proofs.lemmas.Option.{same_Some}
 use Rattle.cnf_core.specs.declared.clause.Lit.{Lit}

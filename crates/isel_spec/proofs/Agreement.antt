@@ -1,6 +1,5 @@
 -- What is read off the items of a forest is what the trees that they stand for are.
-use Rattle.std.proofs.Common.{◌≡◌, ℕ, List, [], ◌∷◌, refl, Bool, true, false, Option, Some, None}
-use Rattle.std.proofs.Common.{option_and_then}
+use Rattle.std.proofs.Common.{◌≡◌, ℕ, List, [], ◌∷◌, refl, Bool, true, false, Option}
 use Rattle.std.specs.List.{AllZip}
 use Rattle.sexp_read.specs.declared.forest.Item.{Item}
 use Rattle.sexp_read.specs.Tree.{Tree, Trees, Word, Branch, End, Then}

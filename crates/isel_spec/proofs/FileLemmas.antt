@@ -1,16 +1,15 @@
 -- What the tables that were read say of the file.
-use Rattle.std.proofs.Common.{◌≡◌, ℕ, ◌<◌, ◌≤◌, zero, List, [], ◌∷◌, length, map, sum, refl, ap, sym, ◌∙◌, subst}
+use Rattle.std.proofs.Common.{◌≡◌, ℕ, ◌<◌, ◌≤◌, List, [], ◌∷◌, length, map, sum, refl, ap, sym, ◌∙◌, subst}
 use Rattle.std.proofs.Common.{arith}
-use Rattle.std.proofs.Common.{Bool, true, false, not, ◌&&◌, ◌||◌, Option, Some, None, option_and_then}
+use Rattle.std.proofs.Common.{Bool, true, false, not, ◌&&◌, Option, Some, None, option_and_then}
 use Rattle.std.specs.Prelude.{nat_le, Contains, All, ◌==◌}
-use Rattle.std.specs.List.{AllZip, AllByRecursion, list_any, list_all, slice_get}
+use Rattle.std.specs.List.{AllZip, AllByRecursion, list_any, list_all}
 use Rattle.std.specs.Str.{bytes_eq}
 use Rattle.std.proofs.lemmas.Bool.{and_parts, false≢true, leb-true}
-use Rattle.std.proofs.lemmas.Bool.Decides.{nat_tests, Decides-eqb}
+use Rattle.std.proofs.lemmas.Bool.Decides.{Decides-eqb}
 use Rattle.std.proofs.lemmas.List.{length-map}
-use Rattle.std.proofs.lemmas.List.Elements.{Contains-append_right, All-from_recursion}
+use Rattle.std.proofs.lemmas.List.Elements.{All-from_recursion}
 use Rattle.std.proofs.lemmas.Option.{none-some, same_Some, slice_get_within, option_and_then_some}
-use Rattle.std.proofs.lemmas.Slice.Eq.{bytes_eq-Decides}
 use Rattle.bv_terms.specs.Sorts.{width_of}
 use Rattle.bv_terms.specs.Table.{Table}
 use Rattle.sexp_read.specs.declared.forest.Item.{Item}
@@ -27,8 +26,8 @@ use Rattle.isel_spec.specs.Form.{is_small, is_new, file_in, pointer_in, with_ite
 use Rattle.isel_spec.specs.Items.{item_view}
 use Rattle.isel_spec.specs.Tables.{file_so_far, HasFew, IsSoundSoFar, IsAdded, IsRefused}
 use Rattle.isel_spec.proofs.Agreement.{pointer_agrees, all_agree}
-use Rattle.list_lemmas.proofs.Bools.{false_unless, le_true as le-true}
-use Rattle.list_lemmas.proofs.Lookups.{any_name, contains-any, not-any}
+use Rattle.list_lemmas.proofs.Bools.{le_true as le-true}
+use Rattle.list_lemmas.proofs.Lookups.{contains-any, not-any}
 
 -- ---- tests
 

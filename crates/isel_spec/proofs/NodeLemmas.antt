@@ -1,15 +1,14 @@
 -- The nodes that a node leads to, each once, are the different terms that stand in its term.
 use Rattle.std.proofs.Common.{◌≡◌, ℕ, ◌+◌, ◌<◌, ◌≤◌, zero, List, [], ◌∷◌, ◌++◌, length, get_or, take}
-use Rattle.std.proofs.Common.{map, refl, ap, sym, ◌∙◌, subst, arith, Bool, true, false, Some}
-use Rattle.std.proofs.Common.{append_assoc, ◌⊎◌, inl, inr, ⊎_elim, nat_eq, unwrap_or, ◌||◌}
+use Rattle.std.proofs.Common.{map, refl, ap, sym, ◌∙◌, subst, arith, false, Some}
+use Rattle.std.proofs.Common.{append_assoc, ◌⊎◌, inl, inr, ⊎_elim, nat_eq, unwrap_or}
 use Rattle.std.specs.Prelude.{Contains, All}
 use Rattle.std.specs.List.{IsDistinct, list_any, slice_get}
 use Rattle.std.proofs.lemmas.List.{length-append}
 use Rattle.std.proofs.lemmas.List.Elements.{All-nil, All-push, All-weaker, All-append, All-more}
 use Rattle.std.proofs.lemmas.List.Elements.{All-get_or, Contains-append_left, Contains-append_right, Contains-push}
 use Rattle.std.proofs.lemmas.List.Elements.{Contains-append_cases}
-use Rattle.std.proofs.lemmas.Bool.{false≢true, cases_lt}
-use Rattle.std.proofs.lemmas.Bool.Decides.{Decides-eqb}
+use Rattle.std.proofs.lemmas.Bool.{cases_lt}
 use Rattle.std.proofs.lemmas.Option.{same_Some, slice_get_within, get_or_from_slice_get}
 use Rattle.std.proofs.lemmas.Map.Keys.{IsDistinct-push}
 use Rattle.std.proofs.lemmas.Cmp.{nat_eq_equiv}

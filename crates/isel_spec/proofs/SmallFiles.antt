@@ -1,7 +1,7 @@
 -- What a file of the small form has: plain operations, and one goal over a few bits of bit-vectors.
 use Rattle.std.proofs.Common.{◌≡◌, ℕ, ◌≤◌, Bool, true, false, ◌&&◌, List, [], ◌∷◌, ◌++◌, length, map, sum, refl, sym}
 use Rattle.std.proofs.Common.{subst}
-use Rattle.std.proofs.Common.{Option, Some, None, option_map, option_and_then, nat_le, codes, if◌then◌else◌}
+use Rattle.std.proofs.Common.{Option, Some, None, option_map, option_and_then, nat_le, codes}
 use Rattle.std.specs.Prelude.{Contains}
 use Rattle.std.specs.List.{AllByRecursion}
 use Rattle.std.specs.Str.{bytes_eq}

@@ -1,6 +1,6 @@
 -- Numbers of combinations with repetition.
 use Rattle.std.proofs.Common.{◌≡◌, ℕ, zero, suc, ◌+◌, ◌-◌, ◌*◌, ◌/◌, ◌^◌, ◌<◌, ◌≤◌, refl, sym, ap, ◌∙◌, arith, add-one}
-use Rattle.std.proofs.Math.Nat.{mul-div_cancel_left, pow-suc, pow-le-pow_right}
+use Rattle.std.proofs.Math.Nat.{pow-suc, pow-le-pow_right}
 use Rattle.std.proofs.lemmas.Nat.{mul-le}
 use Rattle.multiset_rank.specs.Binomial.{choose}
 use Rattle.multiset_rank.specs.Rising.{multichoose}

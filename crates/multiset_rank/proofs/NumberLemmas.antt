@@ -13,7 +13,7 @@ use Rattle.multiset_rank.proofs.CountLemmas.{multichoose-zero, multichoose-more,
 use Rattle.multiset_rank.proofs.PlaceLemmas.{length-multisets}
 use Rattle.multiset_rank.proofs.ClaimLemmas.{claims_of_size-flat_map, claims-flat_map, of_goal}
 use Rattle.list_lemmas.proofs.Lists.{equal_blocks}
-use Rattle.list_lemmas.proofs.Lookups.{block_at, slice_get-append_left, slice_get-append_right}
+use Rattle.list_lemmas.proofs.Lookups.{block_at}
 
 length-goal : (p : Plan) (s goal : ℕ) → length (of_goal p s goal) ≡ multichoose p.kinds s
 length-goal p s goal = length-map (multisets p.kinds s) (λ xs. (goal, xs)) ∙ length-multisets p.kinds s

@@ -1,6 +1,6 @@
 -- The steps of the code from a place to a multiset, and from a multiset to its place.
 use Rattle.std.proofs.Common.{◌≡◌, ℕ, ◌+◌, ◌-◌, ◌^◌, ◌<◌, ◌≤◌, true, List, [], ◌∷◌, ◌++◌, length, take, drop, set}
-use Rattle.std.proofs.Common.{get_or, Option, Some, None, refl, sym, ap, subst, ◌∙◌, arith, add-one, add-zero, zero-add}
+use Rattle.std.proofs.Common.{get_or, Option, Some, refl, sym, ap, subst, ◌∙◌, arith, add-one, add-zero, zero-add}
 use Rattle.std.proofs.Common.{add_assoc, append_assoc, length-append, drop-cons, slice_get, option_map}
 use Rattle.std.specs.Prelude.{IsTrue}
 use Rattle.std.proofs.Math.Seq.{take-length}
@@ -9,7 +9,6 @@ use Rattle.std.proofs.lemmas.List.Elements.{recursion_from_All}
 use Rattle.std.proofs.lemmas.Bool.{and_parts}
 use Rattle.std.specs.List.{AllByRecursion}
 use Rattle.std.specs.Prelude.{nat_le}
-use Rattle.std.proofs.lemmas.Bool.Decides.{nat_tests}
 use Rattle.multiset_rank.specs.Multisets.{multisets, never_falls, AreBelow}
 use Rattle.multiset_rank.specs.Rising.{multichoose, rising, padded}
 use Rattle.multiset_rank.proofs.CountLemmas.{multichoose-zero, multichoose_small}
