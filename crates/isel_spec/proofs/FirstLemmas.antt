@@ -18,7 +18,7 @@ use Rattle.isel_spec.specs.Tables.{HasFew}
 use Rattle.isel_spec.specs.Reading.{Tells}
 use Rattle.isel_spec.proofs.Agreement.{all_agree}
 
--- every fault but want of memory refuses
+-- every fault but that of memory refuses
 text-tells : {X : Type 0} (Read : X → Type 0) (Refused : Type 0) (f : SexpFault) → ((f ≡ read.NoMemory → ⊥) → Refused)
     → Tells (Err (text_fault f)) Read Refused
 text-tells Read Refused (read.NotText place) h = h (λ e. cc)

@@ -57,7 +57,7 @@ refused-none table o args f e =
     well_sorted-none (Apply o (operands (terms_of table) args))
     (refused-sort o (sorts_of (operands (terms_of table) args)) f e)
 
--- every fault but want of memory refuses
+-- every fault but that of memory refuses
 pub refused-tells : {X : Type 0} (Read : X → Type 0) (Refused : Type 0) (f : MakeFault)
     → ((f ≡ make.NoMemory → ⊥) → Refused) → Tells (Err (first_fault f)) Read Refused
 refused-tells Read Refused make.Arity h = h (λ e. cc)

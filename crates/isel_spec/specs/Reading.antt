@@ -6,7 +6,7 @@ use Rattle.bv_terms.specs.Table.{Table, term_at}
 use Rattle.isel_spec.specs.declared.small_form.fault.FirstFault.{FirstFault}
 use Rattle.isel_spec.specs.declared.small_form.fault.FirstFault.TheVariants.{Outside, NoMemory}
 
--- what was read, or that there is nothing to be read; want of memory says nothing
+-- what was read, or that there is nothing to be read; out of memory says nothing
 abbrev pub Tells : {X : Type 0} → Result X FirstFault → (X → Type 0) → Type 0 → Type 0
 Tells (Ok x) Read Refused = Read x
 Tells (Err Outside) Read Refused = Refused
