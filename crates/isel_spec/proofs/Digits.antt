@@ -11,7 +11,7 @@ use Rattle.std.proofs.lemmas.Bool.Decides.{nat_tests}
 use Rattle.std.specs.List.{list_all}
 use Rattle.isel_spec.specs.Text.{each, is_digit, is_numeral}
 
--- the number of so many more digits
+-- the number that more digits make of a number
 abbrev pub number_from : ℕ → ℕ → List ℕ → ℕ
 number_from base n digits = fold (λ n digit. base * n + digit) n digits
 

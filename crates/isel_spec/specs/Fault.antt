@@ -1,4 +1,4 @@
--- A term that can't be made is no term of the form, and what is no text is no file of the form.
+-- A term that cannot be made is no term of the form, and what is no text is no file of the form.
 use Rattle.bv_terms.specs.declared.op.MakeFault.{MakeFault}
 use Rattle.bv_terms.specs.declared.op.MakeFault.TheVariants as make
 use Rattle.sexp_read.specs.declared.fault.SexpFault.{SexpFault}

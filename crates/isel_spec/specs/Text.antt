@@ -80,7 +80,7 @@ each f (x ∷ xs) = option_and_then (λ y. option_and_then (λ ys. Some (y ∷ y
 abbrev pub number : Base → List ℕ → Option ℕ
 number base bytes = option_map (number_in (2 ^ digit_bits base)) (each (digit_in base) bytes)
 
--- how many bits so many digits have, at most 64
+-- how many bits that many digits have, at most 64
 abbrev pub width : Base → ℕ → Option ℕ
 width base count = if is_between 1 64 (digit_bits base * count) then Some (digit_bits base * count) else None
 

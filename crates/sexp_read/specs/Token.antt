@@ -39,7 +39,7 @@ mode_after Between Letter place b = Within place (b ∷ [])
 mode_after _ Semicolon place b = Comment
 mode_after _ _ place b = Between
 
--- the word that ends where it can't go on
+-- the word that ends where it cannot go on
 abbrev pub word_in : Mode → List Token
 word_in (Within first word) = Atom first word ∷ []
 word_in _ = []

@@ -40,7 +40,7 @@ impl Reader {
         }
     }
 
-    /// Ends a word before a place, where it doesn't go on.
+    /// Ends a word before a place, where it does not go on.
     fn end_word(&mut self, first: usize, place: usize) -> Result<(), SexpFault>
         requires { self.old.pending ≡ Pending.Word first }
         ensures ok { OnOk result ((bytes : List ℕ) (class : Class) → HasRead bytes place self.old →
