@@ -1,6 +1,6 @@
 -- A file of the small form has one goal, which the enumeration takes.
-use Rattle.std.proofs.Common.{ℕ, List, ◌∷◌, [], Some, slice_get, subst, sym, ◌∙◌, ap, ◌≡◌}
-use Rattle.isel_spec.specs.File.{File, Goal}
+use Rattle.std.proofs.Common.{ℕ, List, Some, slice_get, subst, sym, ◌∙◌, ap, ◌≡◌}
+use Rattle.isel_spec.specs.File.{File}
 use Rattle.isel_spec.specs.Form.{IsFirstFile}
 use Rattle.isel_spec.proofs.SmallFiles.{small-file}
 use Rattle.plain_search.specs.Enumeration.{HasFewInputs}

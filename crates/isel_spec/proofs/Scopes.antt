@@ -107,4 +107,3 @@ pub apart-more : (done : List Binding) (b : Binding) → differ (map (λ (c : Bi
     → (Contains (map (λ (c : Binding). c.0) done) b.0 → ⊥) →
     differ (map (λ (c : Binding). c.0) (done ++ b ∷ [])) ≡ true
 apart-more done b e h = ap differ (names-append done (b ∷ [])) ∙ differ-apart (map (λ (c : Binding). c.0) done) b.0 e h
-

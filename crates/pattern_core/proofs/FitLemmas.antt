@@ -1,9 +1,8 @@
 -- Tests of a pattern's parts: lists compared from the front on, and what names a node.
-use Rattle.std.proofs.Common.{◌≡◌, ℕ, zero, suc, ◌+◌, ◌^◌, ◌<◌, ◌≤◌, Bool, true, false, ◌↔◌, inl, inr, List, [], ◌∷◌}
+use Rattle.std.proofs.Common.{◌≡◌, ℕ, zero, suc, ◌+◌, ◌^◌, ◌<◌, ◌≤◌, Bool, true, ◌↔◌, inl, inr, List, [], ◌∷◌}
 use Rattle.std.proofs.Common.{length, map, take, get_or, Some, refl, sym, ap, ◌∙◌, subst, arith, slice_get, All}
 use Rattle.std.proofs.Common.{Contains}
 use Rattle.std.specs.Prelude.{option_map, option_and_then}
-use Rattle.std.proofs.lemmas.Bool.{false≢true}
 use Rattle.std.proofs.lemmas.List.{take_all}
 use Rattle.std.proofs.lemmas.List.Elements.{All-get_or, All-head, All-tail}
 use Rattle.std.proofs.lemmas.Option.{slice_get-map, slice_get-get_or, same_Some}

@@ -1,9 +1,7 @@
 -- What the code reads, in the words of the enumeration.
-use Rattle.std.proofs.Common.{◌≡◌, ℕ, ◌+◌, ◌<◌, All, subst, List, length, get_or, drop, [], ◌==◌, Bool, true, false}
-use Rattle.std.proofs.Common.{◌&&◌, ap, sym, ◌∙◌}
-use Rattle.std.specs.List.{list_all}
-use Rattle.std.proofs.lemmas.Bool.{eq-eqb, false≢true}
-use Rattle.std.proofs.lemmas.List.{get_or_default, at_drop_more}
+use Rattle.std.proofs.Common.{◌≡◌, ℕ, ◌<◌, List, length, get_or, Bool, false}
+use Rattle.std.proofs.Common.{ap, sym, ◌∙◌}
+use Rattle.std.proofs.lemmas.List.{get_or_default}
 use Rattle.std.proofs.lemmas.Option.{unwrap_or-slice_get}
 use Rattle.bv_terms.specs.declared.value.Value.{Value}
 use Rattle.bv_terms.specs.declared.value.Value.TheVariants as val
@@ -20,4 +18,3 @@ pub same_value_read : (items inputs : List Value) (k place : ℕ) (d r : Value) 
 same_value_read items inputs k place d r b e f l t =
     ap (λ (x : Value). same_value x r) (sym (get_or-input_at inputs place d l))
     ∙ (λ i. same_value (get_or (sym e i) (sym f i) d) r) ∙ sym t
-

@@ -1,7 +1,7 @@
 -- The nodes along which a term is evaluated, and the table of its values, which has its value at each choice of inputs.
 use Rattle.std.proofs.Common.{◌≡◌, ℕ, ◌^◌, ◌<◌, Bool, false, ◌&&◌, List, [], ◌∷◌, map, length, refl, sym, ap, ◌∙◌}
 use Rattle.std.proofs.Common.{arith, All, sum_by}
-use Rattle.std.proofs.Common.{zero, suc, Contains, get_or, subst}
+use Rattle.std.proofs.Common.{Contains, get_or, subst}
 use Rattle.std.specs.Prelude.{Result, Ok, Err, IfOk}
 use Rattle.std.proofs.lemmas.List.Elements.{All-head, All-tail}
 use Rattle.std.proofs.lemmas.List.FromFn.{length-map-range_with_len, get_or-map-range_with_len}

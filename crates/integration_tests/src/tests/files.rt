@@ -1,8 +1,8 @@
 //! Which bytes are read, by cases one for each cause of refusal, and what a file that was read says.
 
+use bv_terms::{Op, Sort, TermId};
 use isel_base::FILE_LIMIT;
 use isel_spec::{FirstFault, Kind, read_first};
-use bv_terms::{Op, Sort, TermId};
 use std::alloc::{AllocError, Global};
 use std::test::Fail;
 

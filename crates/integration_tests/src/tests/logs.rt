@@ -1,8 +1,8 @@
 //! Logs over formulas of x and y, and their verdicts by hand.
 
-use proof_check::{Verdict, are_new_clauses, check_log};
 use cnf_core::{Chain, Clause, Cnf, Lit, Log};
 use collections::Seq;
+use proof_check::{Verdict, are_new_clauses, check_log};
 use std::alloc::{AllocError, Global};
 use std::test::Fail;
 

@@ -2,8 +2,8 @@
 
 ghost use Rattle.std.specs.Prelude.{◌≡◌, ◌≤◌, length, IfOk};
 
-use pattern_core::{Node, Pattern, Src, order};
 use collections::Seq;
+use pattern_core::{Node, Pattern, Src, order};
 use std::alloc::{AllocError, Global};
 use std::cmp::Ordering;
 use std::test::Fail;

@@ -4,8 +4,8 @@ ghost use Rattle.isel_spec.specs.File.{Goal};
 ghost use Rattle.isel_spec.specs.Spec.{file};
 
 use bv_terms::{Sort, Value};
-use isel_spec::{Kind, Spec, read_first};
 use collections::Seq;
+use isel_spec::{Kind, Spec, read_first};
 use pattern_core::{Node, Pattern, Src, eval, eval_goal, is_well_formed};
 use std::alloc::{AllocError, Global};
 use std::test::Fail;
