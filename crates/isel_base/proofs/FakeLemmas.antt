@@ -1,8 +1,11 @@
 -- What follows for a source in memory from what a read gives and leaves.
-use Rattle.std.proofs.Common.{◌≡◌, ℕ, ◌+◌, ◌-◌, ◌^◌, ◌<◌, ◌≤◌, ◌&&◌, ◌||◌, zero, suc, Bool, true, false, not, cond, List, [], ◌∷◌, map}
-use Rattle.std.proofs.Common.{length, take, drop, min, Option, Some, None, option_map, Result, Ok, Err, refl, sym, ap, ◌∙◌}
+use Rattle.std.proofs.Common.{◌≡◌, ℕ, ◌+◌, ◌-◌, ◌^◌, ◌<◌, ◌≤◌, ◌&&◌, ◌||◌, zero, suc, Bool, true, false, not, cond}
+use Rattle.std.proofs.Common.{List, [], ◌∷◌, map}
+use Rattle.std.proofs.Common.{length, take, drop, min, Option, Some, None, option_map, Result, Ok, Err, refl, sym, ap}
+use Rattle.std.proofs.Common.{◌∙◌}
 use Rattle.std.proofs.Common.{subst, eqb, arith, length-take, length-drop}
-use Rattle.std.specs.Prelude.{find, is_some, IfSome, IfOk, IsOk, IsErr, OnErr, IsSome, IsTrue, MatchOption, nat_lt, nat_eq}
+use Rattle.std.specs.Prelude.{find, is_some, IfSome, IfOk, IsOk, IsErr, OnErr, IsSome, IsTrue, MatchOption, nat_lt}
+use Rattle.std.specs.Prelude.{nat_eq}
 use Rattle.std.specs.List.{list_all, list_any}
 use Rattle.std.specs.Cmp.Lexicographic.{pointwise}
 use Rattle.std.proofs.lemmas.Bool.{and_parts, and_from, false≢true}
@@ -47,12 +50,14 @@ Gives s name place size r new =
 pub counts_after : (s : MemoryFiles) (name other : List ℕ) → fault_count s other ≤ fault_count (after_read s name) other
 counts_after s name other = by (is_some (file_bytes s.files other))
   where
-    by : (b : Bool) → cond b s.faults s.faults_elsewhere ≤ cond b (after_read s name).faults (after_read s name).faults_elsewhere
+    by : (b : Bool) → cond b s.faults s.faults_elsewhere ≤ cond b (after_read s name).faults
+        (after_read s name).faults_elsewhere
     by true = counted-grows _ s.faults
     by false = counted-grows _ s.faults_elsewhere
 
 -- a read of a name that is not there leaves the count of the names that are there
-pub apart_after : (s : MemoryFiles) (name : List ℕ) → file_bytes s.files name ≡ None → (other : List ℕ) → IsSome (file_bytes s.files other)
+pub apart_after : (s : MemoryFiles) (name : List ℕ) → file_bytes s.files name ≡ None → (other : List ℕ)
+    → IsSome (file_bytes s.files other)
     → fault_count (after_read s name) other ≡ fault_count s other
 apart_after s name none other here =
     let gone : is_some (file_bytes s.files name) ≡ false = ap is_some none in
@@ -64,13 +69,15 @@ apart_after s name none other here =
 below-more : (m n x : ℕ) → m ≤ n → nat_lt x m ≡ true → nat_lt x n ≡ true
 below-more m n x le e = grind (arith, nat_tests)
 
-all-below-more : (m n : ℕ) (xs : List ℕ) → m ≤ n → list_all (λ x. nat_lt x m) xs ≡ true → list_all (λ x. nat_lt x n) xs ≡ true
+all-below-more : (m n : ℕ) (xs : List ℕ) → m ≤ n → list_all (λ x. nat_lt x m) xs ≡ true
+    → list_all (λ x. nat_lt x n) xs ≡ true
 all-below-more m n [] le e = refl
 all-below-more m n (x ∷ xs) le e =
     let both = and_parts (nat_lt x m) (list_all (λ y. nat_lt y m) xs) e in
     and_from (nat_lt x n) (list_all (λ y. nat_lt y n) xs) (below-more m n x le both.0) (all-below-more m n xs le both.1)
 
-pub stays_after : (s : MemoryFiles) (name other : List ℕ) → IsTrue (has_no_failing s other) → IsTrue (has_no_failing (after_read s name) other)
+pub stays_after : (s : MemoryFiles) (name other : List ℕ) → IsTrue (has_no_failing s other)
+    → IsTrue (has_no_failing (after_read s name) other)
 stays_after s name other e =
     let both = and_parts (is_some (file_bytes s.files other)) (list_all (λ n. nat_lt n s.reads) s.failing) e in
     and_from (is_some (file_bytes s.files other)) (list_all (λ n. nat_lt n (next_count s.reads)) s.failing) both.0
@@ -86,7 +93,8 @@ none-below m (x ∷ xs) e =
     ap (λ b. b || is_failing xs m) (other m x both.0) ∙ none-below m xs both.1
 
 -- a name without failing reads is read
-pub steady : (s : MemoryFiles) (name : List ℕ) (place size : ℕ) (r : Result ℕ Failed) (new : List ℕ) → Gives s name place size r new
+pub steady : (s : MemoryFiles) (name : List ℕ) (place size : ℕ) (r : Result ℕ Failed) (new : List ℕ)
+    → Gives s name place size r new
     → IsTrue (has_no_failing s name) → IsOk r
 steady s name place size r new gives e =
     let both = and_parts (is_some (file_bytes s.files name)) (list_all (λ n. nat_lt n s.reads) s.failing) e in
@@ -100,7 +108,8 @@ steady s name place size r new gives e =
     by (Some all) false h f g = subst IsOk (sym g.0) refl
 
 -- a failed read counts
-pub cause : (s : MemoryFiles) (name : List ℕ) (place size : ℕ) (r : Result ℕ Failed) (new : List ℕ) → Gives s name place size r new
+pub cause : (s : MemoryFiles) (name : List ℕ) (place size : ℕ) (r : Result ℕ Failed) (new : List ℕ)
+    → Gives s name place size r new
     → OnErr r (Rose (fault_count s name) (fault_count (after_read s name) name))
 cause s name place size r new gives = by (file_bytes s.files name) (is_failing s.failing s.reads) r gives
   where
@@ -119,7 +128,8 @@ front zero xs = refl
 front (suc m) [] = refl
 front (suc m) (x ∷ xs) = ap (λ ys. x ∷ ys) (front m xs)
 
-read_at : (all new : List ℕ) (place step size n : ℕ) → 1 ≤ step → length new ≡ size → n ≡ length (take (min step size) (drop place all))
+read_at : (all new : List ℕ) (place step size n : ℕ) → 1 ≤ step → length new ≡ size
+    → n ≡ length (take (min step size) (drop place all))
     → take n new ≡ take (min step size) (drop place all) → IsReadAt all place new n
 read_at all new place step size n some same count copied = record {
   bytes = copied ∙ sym (front (min step size) (drop place all)) ∙ ap (λ k. take k (drop place all)) (sym count);
@@ -129,7 +139,8 @@ read_at all new place step size n some same count copied = record {
   );
 }
 
-pub told : (s : MemoryFiles) (name : List ℕ) (place size : ℕ) (r : Result ℕ Failed) (new : List ℕ) → 1 ≤ s.step → length new ≡ size
+pub told : (s : MemoryFiles) (name : List ℕ) (place size : ℕ) (r : Result ℕ Failed) (new : List ℕ) → 1 ≤ s.step
+    → length new ≡ size
     → Gives s name place size r new → IfSome (file_bytes s.files name) (λ all. IfOk r (IsReadAt all place new))
 told s name place size r new some same gives = by (file_bytes s.files name) (is_failing s.failing s.reads) r gives
   where
@@ -145,10 +156,12 @@ told s name place size r new some same gives = by (file_bytes s.files name) (is_
         read_at all new place s.step size n some same count (ap (λ k. take k new) count ∙ g.1)
 
 -- the same after what a read leaves
-pub stays_from : (s t : MemoryFiles) (name : List ℕ) → t ≡ after_read s name → (other : List ℕ) → IsTrue (has_no_failing s other)
+pub stays_from : (s t : MemoryFiles) (name : List ℕ) → t ≡ after_read s name → (other : List ℕ)
+    → IsTrue (has_no_failing s other)
     → IsTrue (has_no_failing t other)
 stays_from s t name left other h =
-    let P : MemoryFiles → Type 0 = λ u. IsTrue (has_no_failing u other) in subst P (sym left) (stays_after s name other h)
+    let P : MemoryFiles → Type 0 = λ u. IsTrue (has_no_failing u other) in
+    subst P (sym left) (stays_after s name other h)
 
 pub there : {X : Type 0} (view : X → List ℕ × List ℕ) (xs : List X) (name : List ℕ)
     → is_some (file_bytes (map view xs) name) ≡ is_some (find (λ x. pointwise eqb (view x).0 name) xs)

@@ -1,12 +1,15 @@
 //! Files and streams in memory, for tests: they tell their bytes, take or give at most `step` bytes at a
 //! time, and fail at the calls whose numbers they are given. `step` is at least 1.
 
-ghost use Rattle.std.specs.Prelude.{◌≡◌, ◌≤◌, ◌<◌, ℕ, List, [], None, Some, Ok, Bool, IfOk, IfSome, IsOk, IsErr, IsSome, IsTrue};
-ghost use Rattle.std.specs.Prelude.{OnErr, MatchOption, length, map, take, drop, min, option_map, is_some, IsNone, find, ◌==◌};
+ghost use Rattle.std.specs.Prelude.{◌≡◌, ◌≤◌, ◌<◌, ℕ, List, [], None, Some, Ok, Bool, IfOk, IfSome, IsOk, IsErr};
+ghost use Rattle.std.specs.Prelude.{IsSome, IsTrue};
+ghost use Rattle.std.specs.Prelude.{OnErr, MatchOption, length, map, take, drop, min, option_map, is_some, IsNone};
+ghost use Rattle.std.specs.Prelude.{find, ◌==◌};
 ghost use Rattle.std.specs.String.{string_bytes};
 ghost use Rattle.isel_base.specs.Outside.{Rose, IsReadAt, IsAppended, NothingOnlyWhereRose};
 ghost use Rattle.std.specs.Cmp.Lexicographic.{pointwise};
-ghost use Rattle.isel_base.specs.Fakes.{file_bytes, fault_count, is_failing, counted, read_gives, after_read, after_put, has_no_failing};
+ghost use Rattle.isel_base.specs.Fakes.{file_bytes, fault_count, is_failing, counted, read_gives, after_read};
+ghost use Rattle.isel_base.specs.Fakes.{after_put, has_no_failing};
 
 use crate::traits::{Failed, Files, Sink};
 use std::alloc::Global;
@@ -151,7 +154,8 @@ impl Files for MemFiles {
         ensures counts { (other : List ℕ) → fault_count self.old other ≤ fault_count self.new other }
         ensures same { (other : List ℕ) → file_bytes self.new.files other ≡ file_bytes self.old.files other }
         ensures leaves { self.new ≡ after_read self.old name.now }
-        ensures apart { file_bytes self.old.files name.now ≡ None → (other : List ℕ) → IsSome (file_bytes self.old.files other) →
+        ensures apart { file_bytes self.old.files name.now ≡ None → (other : List ℕ) →
+            IsSome (file_bytes self.old.files other) →
             fault_count self.new other ≡ fault_count self.old other }
         ensures steady { IsTrue (has_no_failing self.old name.now) → IsOk result }
         ensures stays { (other : List ℕ) → IsTrue (has_no_failing self.old other) →

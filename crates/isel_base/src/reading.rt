@@ -54,7 +54,8 @@ fn read_next<F: Files>(
     ensures told { IfSome (F.bytes files.old name.now) (λ all. GotMore all got.old.items result got.new.items) }
     ensures grows { IfOk result (λ n. length got.new.items ≡ length got.old.items + n) }
     ensures read { ¬ IsErrOf result ReadAllFault.TooLong }
-    ensures cause { IsErrOf result ReadAllFault.ReadFault → Rose (F.faults files.old name.now) (F.faults files.new name.now) }
+    ensures cause { IsErrOf result ReadAllFault.ReadFault →
+        Rose (F.faults files.old name.now) (F.faults files.new name.now) }
     ensures counts { (other : List ℕ) → F.faults files.old other ≤ F.faults files.new other }
     ensures same { (other : List ℕ) → F.bytes files.new other ≡ F.bytes files.old other }
     ensures leaves { F.read_leaves files.old name.now files.new }
@@ -74,8 +75,10 @@ fn read_next<F: Files>(
 pub fn read_all<F: Files>(alloc: Global, files: &mut F, name: &str) -> Result<Vec<u8>, ReadAllFault>
     ensures bytes { IfSome (F.bytes files.old name.now) (λ all. IfOk result (λ v. v.items ≡ all)) }
     ensures short { IfOk result (λ v. length v.items ≤ 2 ^ 20) }
-    ensures long { IfSome (F.bytes files.old name.now) (λ all. IsErrOf result ReadAllFault.TooLong → 2 ^ 20 < length all) }
-    ensures cause { IsErrOf result ReadAllFault.ReadFault → Rose (F.faults files.old name.now) (F.faults files.new name.now) }
+    ensures long { IfSome (F.bytes files.old name.now) (λ all. IsErrOf result ReadAllFault.TooLong →
+        2 ^ 20 < length all) }
+    ensures cause { IsErrOf result ReadAllFault.ReadFault →
+        Rose (F.faults files.old name.now) (F.faults files.new name.now) }
     ensures counts { (other : List ℕ) → F.faults files.old other ≤ F.faults files.new other }
     ensures same { (other : List ℕ) → F.bytes files.new other ≡ F.bytes files.old other }
 

@@ -1,5 +1,6 @@
 -- From a library to an answer.
-use Rattle.std.proofs.Common.{◌≡◌, ℕ, ◌≤◌, List, [], ◌∷◌, length, Some, None, slice_get, ⊎_elim, arith, sym, ap, ◌∙◌, refl, subst}
+use Rattle.std.proofs.Common.{◌≡◌, ℕ, ◌≤◌, List, [], ◌∷◌, length, Some, None, slice_get, ⊎_elim, arith, sym, ap, ◌∙◌}
+use Rattle.std.proofs.Common.{refl, subst}
 use Rattle.std.specs.Prelude.{All}
 use Rattle.std.proofs.lemmas.List.Elements.{All-contains_itself}
 use Rattle.isel_spec.specs.File.{File, Goal}
@@ -17,7 +18,8 @@ nothing_first (p ∷ ps) h = cc
 pub first_goal : (gs : List Goal) (g : Goal) → gs ≡ g ∷ [] → slice_get gs 0 ≡ Some g
 first_goal gs g e = ap (λ l. slice_get l 0) e
 
-are_right : (f : File) (g : Goal) (bound size : ℕ) (rules : List Pattern) → size ≤ bound → AreRules f g size rules → All (IsRight f g bound size) rules
+are_right : (f : File) (g : Goal) (bound size : ℕ) (rules : List Pattern) → size ≤ bound → AreRules f g size rules
+    → All (IsRight f g bound size) rules
 are_right f g bound size rules within are =
     λ k d h. let m = (are.members _).0 (All-contains_itself rules k d h) in record {
       well_formed = m.0;
@@ -27,7 +29,8 @@ are_right f g bound size rules within are =
       rule = m.3;
     }
 
-first_size : (f : File) (g : Goal) (size : ℕ) (p : Pattern) (ps : List Pattern) → AreRules f g size (p ∷ ps) → (length p.nodes ≤ 6) × (length p.nodes ≡ size)
+first_size : (f : File) (g : Goal) (size : ℕ) (p : Pattern) (ps : List Pattern) → AreRules f g size (p ∷ ps)
+    → (length p.nodes ≤ 6) × (length p.nodes ≡ size)
 first_size f g size p ps are = let m = (are.members p).0 (0, omega arith, refl) in (m.0.size, m.2)
 
 answer_from : (f : File) (g : Goal) (bound : ℕ) (p : Pattern) (ps : List Pattern) → IsLibrary f g bound (p ∷ ps)
@@ -39,23 +42,29 @@ answer_from f g bound p ps l =
     (s.0, ((λ e. cc), subst P (sym s.1) (are_right f g bound some.0 (p ∷ ps) some.1 some.3), l))) l
 
 -- the rules of a library that is not empty are right
-pub answer_of : (f : File) (g : Goal) (bound : ℕ) (rules : List Pattern) (first : Pattern) → Some first ≡ slice_get rules 0
-    → IsLibrary f g bound rules → (length first.nodes ≤ 6) × IsAnswer f g bound (answer.Complete (length first.nodes) rules)
+pub answer_of : (f : File) (g : Goal) (bound : ℕ) (rules : List Pattern) (first : Pattern)
+    → Some first ≡ slice_get rules 0
+    → IsLibrary f g bound rules
+    → (length first.nodes ≤ 6) × IsAnswer f g bound (answer.Complete (length first.nodes) rules)
 answer_of f g bound [] first h l = cc
 answer_of f g bound (p ∷ ps) first h l =
     let e : p ≡ first = cc in
-    let P : Pattern → Type 0 = λ q. (length q.nodes ≤ 6) × IsAnswer f g bound (answer.Complete (length q.nodes) (p ∷ ps)) in
+    let P : Pattern → Type 0 =
+    λ q. (length q.nodes ≤ 6) × IsAnswer f g bound (answer.Complete (length q.nodes) (p ∷ ps)) in
     subst P e (answer_from f g bound p ps l)
 
-pub answer_made : (f : File) (g : Goal) (bound size : ℕ) (rules made : List Pattern) (first : Pattern) → Some first ≡ slice_get rules 0
-    → IsLibrary f g bound rules → made ≡ rules → size ≡ length first.nodes → IsAnswer f g bound (answer.Complete size made)
+pub answer_made : (f : File) (g : Goal) (bound size : ℕ) (rules made : List Pattern) (first : Pattern)
+    → Some first ≡ slice_get rules 0
+    → IsLibrary f g bound rules → made ≡ rules → size ≡ length first.nodes
+    → IsAnswer f g bound (answer.Complete size made)
 answer_made f g bound size rules made first h l m s =
     let P : ℕ → Type 0 = λ n. IsAnswer f g bound (answer.Complete n made) in
     let Q : List Pattern → Type 0 = λ ps. IsAnswer f g bound (answer.Complete (length first.nodes) ps) in
     subst P (sym s) (subst Q (sym m) (answer_of f g bound rules first h l).1)
 
 -- the text of an answer for the only goal
-pub text_of : (f : File) (g : Goal) (bound : ℕ) (a : GoalAnswer) (answers : List GoalAnswer) (text : List ℕ) → f.goals ≡ g ∷ []
+pub text_of : (f : File) (g : Goal) (bound : ℕ) (a : GoalAnswer) (answers : List GoalAnswer) (text : List ℕ)
+    → f.goals ≡ g ∷ []
     → IsAnswer f g bound a → answers ≡ a ∷ [] → text ≡ library_text f answers → IsLibraryText f bound text
 text_of f g bound a answers text one right only written = record {
   goal = g;

@@ -1,5 +1,6 @@
 -- Words that are compared one by one.
-use Rattle.std.proofs.Common.{◌≡◌, ℕ, ◌≤◌, ◌<◌, Bool, true, false, not, List, [], ◌∷◌, length, get_or, map, eqb, refl, arith}
+use Rattle.std.proofs.Common.{◌≡◌, ℕ, ◌≤◌, ◌<◌, Bool, true, false, not, List, [], ◌∷◌, length, get_or, map, eqb, refl}
+use Rattle.std.proofs.Common.{arith}
 use Rattle.std.specs.Cmp.Lexicographic.{pointwise}
 use Rattle.std.proofs.lemmas.Slice.Eq.{slice_eq-Decides}
 use Rattle.std.proofs.lemmas.Bool.Decides.{Decides-eqb}
@@ -14,7 +15,8 @@ same_word a b h = (slice_eq-Decides Decides-eqb a b (pointwise eqb a b) refl).0 
 
 -- the views of four elements
 pub four_of : {A B : Type 0} (g : A → B) (xs : List A) (a b c d : A) → 4 ≤ length xs → length xs < 5
-    → a ≡ get_or xs 0 a → b ≡ get_or xs 1 b → c ≡ get_or xs 2 c → d ≡ get_or xs 3 d → map g xs ≡ g a ∷ g b ∷ g c ∷ g d ∷ []
+    → a ≡ get_or xs 0 a → b ≡ get_or xs 1 b → c ≡ get_or xs 2 c → d ≡ get_or xs 3 d
+    → map g xs ≡ g a ∷ g b ∷ g c ∷ g d ∷ []
 four_of g [] a b c d low high p q r s = absurd (omega (arith, low))
 four_of g (w ∷ []) a b c d low high p q r s = absurd (omega (arith, low))
 four_of g (w ∷ x ∷ []) a b c d low high p q r s = absurd (omega (arith, low))

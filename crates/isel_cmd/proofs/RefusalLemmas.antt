@@ -26,6 +26,7 @@ pub begun : (r : Refusal) (told : Option (List ℕ)) (R : Type 0) (name : List �
     → (HasPrefix old (note_of (refused_status r) name) new ⊎ HasPrefix old (note_of 6 name) new)
     → CutsNote (IsToldNoFile told) R name old new
 begun r told R name old new none rose (inr cut) = (6, inr (inr refl), cut)
-begun Outside told R name old new none rose (inl cut) = (3, inl (refl, told_no_file told (λ bytes t. none bytes t refl)), cut)
+begun Outside told R name old new none rose (inl cut) =
+    (3, inl (refl, told_no_file told (λ bytes t. none bytes t refl)), cut)
 begun ReadFault told R name old new none rose (inl cut) = (4, inr (inl (refl, rose refl)), cut)
 begun NoMemory told R name old new none rose (inl cut) = (6, inr (inr refl), cut)

@@ -52,7 +52,8 @@ WritesLibrary bytes bound old new = (text : List ℕ) × IsLibraryOf bytes bound
 
 -- nothing was appended to a sink, or a part of the text of the library and not all of it
 abbrev pub WritesAtMostPart : List ℕ → ℕ → Option (List ℕ) → Option (List ℕ) → Type 0
-WritesAtMostPart bytes bound old new = (new ≡ old) ⊎ ((text : List ℕ) × IsLibraryOf bytes bound text × HasPrefix old text new)
+WritesAtMostPart bytes bound old new =
+    (new ≡ old) ⊎ ((text : List ℕ) × IsLibraryOf bytes bound text × HasPrefix old text new)
 
 -- why a refusal's line is written: the bytes are no file, the read failed, or memory ran out, which is free
 abbrev pub IsRefusalCause : Type 0 → Type 0 → ℕ → Type 0

@@ -11,7 +11,9 @@ ghost use Rattle.std.specs.String.{string_bytes};
 ghost use Rattle.isel_base.specs.Outside.{Rose, HasPrefix, ReadsOnly};
 ghost use Rattle.isel_cmd.specs.Words.{IsSynth, HasNoForm};
 ghost use Rattle.isel_cmd.specs.Status.{number_of, refused_status};
-ghost use Rattle.isel_cmd.specs.Program.{IsNoFile, IsLibraryText, IsLibraryOf, HasOneGoal, WritesLibrary, WritesAtMostPart, CutsNote, IsToldNoFile, IsCommandStatus, with_text, note_of};
+ghost use Rattle.isel_cmd.specs.Program.{IsNoFile, IsLibraryText, IsLibraryOf, HasOneGoal, WritesLibrary};
+ghost use Rattle.isel_cmd.specs.Program.{WritesAtMostPart, CutsNote, IsToldNoFile, IsCommandStatus, with_text};
+ghost use Rattle.isel_cmd.specs.Program.{note_of};
 
 use crate::status::Status;
 use crate::words::parse;
@@ -74,10 +76,13 @@ fn library_of(alloc: Global, spec: &Spec, bound: u8) -> Result<String, AllocErro
 
 /// The file of that name, as far as it is of the form.
 fn spec_of<F: Files>(alloc: Global, files: &mut F, name: &str) -> Result<Spec, Refusal>
-    ensures read { (bytes : List ℕ) → F.bytes files.old name.now ≡ Some bytes → IfOk result (λ spec. IsFirstFile bytes (file spec)) }
+    ensures read { (bytes : List ℕ) → F.bytes files.old name.now ≡ Some bytes →
+        IfOk result (λ spec. IsFirstFile bytes (file spec)) }
     ensures one_goal { IfOk result (λ spec. HasOneGoal (file spec)) }
-    ensures outside { (bytes : List ℕ) → F.bytes files.old name.now ≡ Some bytes → IsErrOf result Refusal.Outside → IsNoFile bytes }
-    ensures cause { IsErrOf result Refusal.ReadFault → Rose (F.faults files.old name.now) (F.faults files.new name.now) }
+    ensures outside { (bytes : List ℕ) → F.bytes files.old name.now ≡ Some bytes → IsErrOf result Refusal.Outside →
+        IsNoFile bytes }
+    ensures cause { IsErrOf result Refusal.ReadFault →
+        Rose (F.faults files.old name.now) (F.faults files.new name.now) }
     ensures only { ReadsOnly F.read_leaves name.now files.old files.new }
     ensures steady { IsTrue (F.never_fails files.old name.now) → ¬ IsErrOf result Refusal.ReadFault }
     ensures counts { (other : List ℕ) → F.faults files.old other ≤ F.faults files.new other }
@@ -101,9 +106,12 @@ fn spec_of<F: Files>(alloc: Global, files: &mut F, name: &str) -> Result<Spec, R
 /// The text of the library of the file of that name.
 fn library<F: Files>(alloc: Global, files: &mut F, name: &str, bound: u8) -> Result<String, Refusal>
     requires { bound ≤ 1 }
-    ensures text { (bytes : List ℕ) → F.bytes files.old name.now ≡ Some bytes → IfOk result (λ text. IsLibraryOf bytes bound (string_bytes text)) }
-    ensures outside { (bytes : List ℕ) → F.bytes files.old name.now ≡ Some bytes → IsErrOf result Refusal.Outside → IsNoFile bytes }
-    ensures cause { IsErrOf result Refusal.ReadFault → Rose (F.faults files.old name.now) (F.faults files.new name.now) }
+    ensures text { (bytes : List ℕ) → F.bytes files.old name.now ≡ Some bytes →
+        IfOk result (λ text. IsLibraryOf bytes bound (string_bytes text)) }
+    ensures outside { (bytes : List ℕ) → F.bytes files.old name.now ≡ Some bytes → IsErrOf result Refusal.Outside →
+        IsNoFile bytes }
+    ensures cause { IsErrOf result Refusal.ReadFault →
+        Rose (F.faults files.old name.now) (F.faults files.new name.now) }
     ensures only { ReadsOnly F.read_leaves name.now files.old files.new }
     ensures steady { IsTrue (F.never_fails files.old name.now) → ¬ IsErrOf result Refusal.ReadFault }
     ensures counts { (other : List ℕ) → F.faults files.old other ≤ F.faults files.new other }
@@ -202,17 +210,22 @@ fn synth<F: Files, S: Sink, E: Sink>(
     ensures status { IsCommandStatus (number_of result) }
     ensures headline { (bytes : List ℕ) → F.bytes files.old name.now ≡ Some bytes → number_of result ≡ 0 →
         WritesLibrary bytes bound (S.written out.old) (S.written out.new) }
-    ensures refused { (bytes : List ℕ) → F.bytes files.old name.now ≡ Some bytes → number_of result ≡ 3 → IsNoFile bytes }
+    ensures refused { (bytes : List ℕ) → F.bytes files.old name.now ≡ Some bytes → number_of result ≡ 3 →
+        IsNoFile bytes }
     ensures read_fault { number_of result ≡ 4 → Rose (F.faults files.old name.now) (F.faults files.new name.now) }
-    ensures write_fault { number_of result ≡ 5 → Rose (S.faults out.old) (S.faults out.new) ⊎ Rose (E.faults notes.old) (E.faults notes.new) }
-    ensures line { number_of result ≢ 5 → E.written notes.new ≡ with_text (note_of (number_of result) name.now) (E.written notes.old) }
+    ensures write_fault { number_of result ≡ 5 → Rose (S.faults out.old) (S.faults out.new) ⊎
+        Rose (E.faults notes.old) (E.faults notes.new) }
+    ensures line { number_of result ≢ 5 →
+        E.written notes.new ≡ with_text (note_of (number_of result) name.now) (E.written notes.old) }
     ensures untouched { number_of result ≢ 0 → number_of result ≢ 5 → S.written out.new ≡ S.written out.old }
     ensures cut { (bytes : List ℕ) → F.bytes files.old name.now ≡ Some bytes → number_of result ≡ 5 →
         WritesAtMostPart bytes bound (S.written out.old) (S.written out.new) }
     ensures cut_line { number_of result ≡ 5 → (E.written notes.new ≡ E.written notes.old) ⊎
-        CutsNote (IsToldNoFile (F.bytes files.old name.now)) (Rose (F.faults files.old name.now) (F.faults files.new name.now))
+        CutsNote (IsToldNoFile (F.bytes files.old name.now))
+        (Rose (F.faults files.old name.now) (F.faults files.new name.now))
         name.now (E.written notes.old) (E.written notes.new) }
-    ensures one_fails { number_of result ≡ 5 → ((S.written out.new ≡ S.written out.old) × Rose (E.faults notes.old) (E.faults notes.new)) ⊎
+    ensures one_fails { number_of result ≡ 5 →
+        ((S.written out.new ≡ S.written out.old) × Rose (E.faults notes.old) (E.faults notes.new)) ⊎
         ((E.written notes.new ≡ E.written notes.old) × Rose (S.faults out.old) (S.faults out.new)) }
     ensures out_left { number_of result ≢ 0 → number_of result ≢ 5 → out.new ≡ out.old }
     ensures only { ReadsOnly F.read_leaves name.now files.old files.new }
@@ -249,16 +262,19 @@ pub fn run_here<F: Files, S: Sink, E: Sink>(
     // The bytes of the named file are a file, and what this call appended to `out` is the text of an
     // answer for its goal that is right on every input and complete for the bound.
     ensures headline { (name bytes : List ℕ) (bound : ℕ) → IsSynth (map string_bytes words.now) name bound →
-        F.bytes files.old name ≡ Some bytes → result ≡ 0 → WritesLibrary bytes bound (S.written out.old) (S.written out.new) }
+        F.bytes files.old name ≡ Some bytes → result ≡ 0 →
+        WritesLibrary bytes bound (S.written out.old) (S.written out.new) }
 
     // Status 2 comes exactly where the words have no form, unless the line could not be written.
     ensures no_form { result ≡ 2 → HasNoForm (map string_bytes words.now) }
     ensures no_form_only { HasNoForm (map string_bytes words.now) → (result ≡ 2) ⊎ (result ≡ 5) }
-    ensures form { (name : List ℕ) (bound : ℕ) → IsSynth (map string_bytes words.now) name bound → IsCommandStatus result }
+    ensures form { (name : List ℕ) (bound : ℕ) → IsSynth (map string_bytes words.now) name bound →
+        IsCommandStatus result }
 
     // It comes exactly where they have none and the line was written, where `notes` tells its bytes.
     ensures no_form_exact { (before : List ℕ) → E.written notes.old ≡ Some before →
-        ((result ≡ 2) ↔ (HasNoForm (map string_bytes words.now) × (E.written notes.new ≡ Some (before ++ note_of 2 [])))) }
+        ((result ≡ 2) ↔ (HasNoForm (map string_bytes words.now)
+        × (E.written notes.new ≡ Some (before ++ note_of 2 [])))) }
 
     // Status 3 comes exactly where the bytes are no file of the form, unless a read or a write failed or
     // memory ran out.
@@ -275,10 +291,12 @@ pub fn run_here<F: Files, S: Sink, E: Sink>(
     // A fault of reading or writing comes only where the count of its object rose in this call.
     ensures read_fault { (name : List ℕ) (bound : ℕ) → IsSynth (map string_bytes words.now) name bound →
         result ≡ 4 → Rose (F.faults files.old name) (F.faults files.new name) }
-    ensures write_fault { result ≡ 5 → Rose (S.faults out.old) (S.faults out.new) ⊎ Rose (E.faults notes.old) (E.faults notes.new) }
+    ensures write_fault { result ≡ 5 → Rose (S.faults out.old) (S.faults out.new) ⊎
+        Rose (E.faults notes.old) (E.faults notes.new) }
 
     // Where `out` failed nothing is written to `notes`; where `notes` failed nothing is written to `out`.
-    ensures one_fails { result ≡ 5 → ((S.written out.new ≡ S.written out.old) × Rose (E.faults notes.old) (E.faults notes.new)) ⊎
+    ensures one_fails { result ≡ 5 →
+        ((S.written out.new ≡ S.written out.old) × Rose (E.faults notes.old) (E.faults notes.new)) ⊎
         ((E.written notes.new ≡ E.written notes.old) × Rose (S.faults out.old) (S.faults out.new)) }
 
     // What is written to `notes`: nothing with status 0, else the line of the status; with status 5 a
@@ -297,7 +315,8 @@ pub fn run_here<F: Files, S: Sink, E: Sink>(
     ensures untouched { result ≢ 0 → result ≢ 5 → S.written out.new ≡ S.written out.old }
     ensures no_form_untouched { HasNoForm (map string_bytes words.now) → S.written out.new ≡ S.written out.old }
     ensures cut { (name bytes : List ℕ) (bound : ℕ) → IsSynth (map string_bytes words.now) name bound →
-        F.bytes files.old name ≡ Some bytes → result ≡ 5 → WritesAtMostPart bytes bound (S.written out.old) (S.written out.new) }
+        F.bytes files.old name ≡ Some bytes → result ≡ 5 →
+        WritesAtMostPart bytes bound (S.written out.old) (S.written out.new) }
 
     // No file but the named one is read. What the source tells stays, and counts never fall.
     ensures reads_only { (name : List ℕ) (bound : ℕ) → IsSynth (map string_bytes words.now) name bound →

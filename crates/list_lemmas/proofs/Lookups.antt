@@ -187,7 +187,8 @@ contains-any true n ns f g = ap not (sym (any_name n ns (f refl)))
 contains-any false n ns f g =
     ap not (sym (false_unless (list_any (bytes_eq n) ns) (λ e. false≢true (g (any-there n ns e)))))
 
-pub not-any : (name : List ℕ) (names : List (List ℕ)) → not (list_any (bytes_eq name) names) ≡ true → Contains names name
+pub not-any : (name : List ℕ) (names : List (List ℕ)) → not (list_any (bytes_eq name) names) ≡ true
+    → Contains names name
     → ⊥
 not-any name names e has = false≢true (sym (ap not (any_name name names has)) ∙ e)
 
@@ -274,7 +275,8 @@ some_at [] k l = absurd (omega (arith, l))
 some_at (x ∷ xs) zero l = (x, refl)
 some_at (x ∷ xs) (suc k) l = some_at xs k (omega (arith, l))
 
-pub same-suc : {A B C : Type 0} (F : A → C) (G : B → C) (xs : List A) (ys : List B) (i : ℕ) (d : A) (e : B) → i < length xs
+pub same-suc : {A B C : Type 0} (F : A → C) (G : B → C) (xs : List A) (ys : List B) (i : ℕ) (d : A) (e : B)
+    → i < length xs
     → i < length ys → F (get_or xs i d) ≡ G (get_or ys i e)
     → map F (take i xs) ≡ map G (take i ys) → map F (take (suc i) xs) ≡ map G (take (suc i) ys)
 same-suc F G [] ys i d e l k s h = absurd (omega (arith, l))
@@ -357,7 +359,8 @@ pub slice_get-end : {A : Type 0} (xs : List A) (x : A) → slice_get (xs ++ x �
 slice_get-end [] x = refl
 slice_get-end (y ∷ xs) x = slice_get-end xs x
 
-pub All-slice_get : {A : Type 0} (P : A → Type 0) (xs : List A) (k : ℕ) (x : A) → All P xs → slice_get xs k ≡ Some x → P x
+pub All-slice_get : {A : Type 0} (P : A → Type 0) (xs : List A) (k : ℕ) (x : A) → All P xs → slice_get xs k ≡ Some x
+    → P x
 All-slice_get P xs k x h at = subst P (get_or_from_slice_get xs k x x at) (h k x (slice_get_within xs k x at))
 
 -- a test of what is left, where its first element passes or fails
@@ -372,7 +375,8 @@ list_all_stops {X} p xs i x l e t =
     at_drop_more (list_all p) xs i x l ∙ ap (λ (b : Bool). b && list_all p (drop (i + 1) xs)) (ap p (sym e) ∙ t)
 
 -- what holds of each element holds of the one that a loop has come to
-pub All-at_place : {X : Type 0} (P : X → Type 0) (xs : List X) (i : ℕ) (x : X) → i < length xs → x ≡ get_or xs i x → All P xs
+pub All-at_place : {X : Type 0} (P : X → Type 0) (xs : List X) (i : ℕ) (x : X) → i < length xs → x ≡ get_or xs i x
+    → All P xs
     → P x
 All-at_place P xs i x l e h = subst P (sym e) (h i x l)
 

@@ -17,7 +17,8 @@ abbrev pub IsOrdered : {X : Type 0} → (X → X → Type 0) → List X → Type
 IsOrdered R [] = Unit {0}
 IsOrdered {X} R (x ∷ xs) = ((y : X) → In xs y → R x y) × IsOrdered R xs
 
-pub IsOrdered-within : {X : Type 0} (R S : X → X → Type 0) (xs : List X) → ((x y : X) → In xs x → In xs y → R x y → S x y)
+pub IsOrdered-within : {X : Type 0} (R S : X → X → Type 0) (xs : List X)
+    → ((x y : X) → In xs x → In xs y → R x y → S x y)
     → IsOrdered R xs → IsOrdered S xs
 IsOrdered-within R S [] k h = tt
 IsOrdered-within R S (x ∷ xs) k h =

@@ -1,3 +1,5 @@
+//! What patterns and goals compute on a file that was read.
+
 ghost use Rattle.std.specs.Prelude.{◌≡◌, ◌<◌, length, Some, IsTrue, map, slice_get};
 ghost use Rattle.bv_terms.specs.Sorts.{HasSort, HaveSorts};
 ghost use Rattle.isel_spec.specs.File.{Goal};
@@ -10,8 +12,10 @@ use pattern_core::{Node, Pattern, Src, eval, eval_goal, is_well_formed};
 use std::alloc::{AllocError, Global};
 use std::test::Fail;
 
-const OR1: &str =
-    "(isel-spec 1 32) (op ior1 ((a (_ BitVec 1)) (b (_ BitVec 1))) () ((bvor a b))) (op xor1 ((a (_ BitVec 1)) (b (_ BitVec 1))) () ((bvxor a b))) (goal or1 ((reg a (_ BitVec 1)) (reg b (_ BitVec 1))) 1 ((bvor a b)))";
+const OR1: &str = "(isel-spec 1 32) \
+    (op ior1 ((a (_ BitVec 1)) (b (_ BitVec 1))) () ((bvor a b))) \
+    (op xor1 ((a (_ BitVec 1)) (b (_ BitVec 1))) () ((bvxor a b))) \
+    (goal or1 ((reg a (_ BitVec 1)) (reg b (_ BitVec 1))) 1 ((bvor a b)))";
 
 /// Whether a value is one bit, and so is the sort.
 fn is_bit(sort: Sort, value: Value) -> bool

@@ -9,7 +9,8 @@ invariant-loop-files g l = record {
   counts : (other : List ℕ) → g.F.Files.faults l.fn.files other ≤ g.F.Files.faults l.files other;
   same : (other : List ℕ) → g.F.Files.bytes l.files other ≡ g.F.Files.bytes l.fn.files other;
   only : ReadsOnly g.F.Files.read_leaves l.name l.fn.files l.files;
-  stays : (other : List ℕ) → IsTrue (g.F.Files.never_fails l.fn.files other) → IsTrue (g.F.Files.never_fails l.files other);
+  stays : (other : List ℕ) → IsTrue (g.F.Files.never_fails l.fn.files other)
+      → IsTrue (g.F.Files.never_fails l.files other);
 }
 
 abbrev pub decreases-loop-files : goal.decreases-loop-files

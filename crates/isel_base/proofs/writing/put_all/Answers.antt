@@ -8,6 +8,7 @@ loop-done-preserved g c =
     let at_most = rw (rest_from bytes c.loop-done.done) at c.in_ok-count.ensures.within in
     record {
       within = omega (arith, at_most, length-drop c.loop-done.done bytes);
-      told = told_after bytes c.loop-done.done c.in_ok-count.count _ _ _ c.loop-done.invariant.told c.in_ok-count.ensures.told;
+      told = told_after bytes c.loop-done.done c.in_ok-count.count _ _ _ c.loop-done.invariant.told
+          c.in_ok-count.ensures.told;
       counts = omega (arith, c.in_ok-count.ensures.counts);
     }

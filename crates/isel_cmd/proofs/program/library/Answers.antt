@@ -5,7 +5,8 @@ use Rattle.isel_cmd.proofs.program.library.Goals as goal
 
 pub returns-in-Err-clause-outside : goal.returns-in-Err-clause-outside
 returns-in-Err-clause-outside g c =
-    λ bytes told e. let same : c.in-Err.refusal ≡ Outside = cc in c.in-Err.ensures.outside bytes told (ap (λ r. Err r) same)
+    λ bytes told e. let same : c.in-Err.refusal ≡ Outside = cc in
+    c.in-Err.ensures.outside bytes told (ap (λ r. Err r) same)
 
 pub returns-in-Ok-library_of-clause-text : goal.returns-in-Ok-library_of-clause-text
 returns-in-Ok-library_of-clause-text g c = λ bytes told. record {

@@ -20,5 +20,7 @@ returns c =
     let one = c.requires.one_goal in
     let f = file c.args.spec.now in
     let right = c.in_ok-answer.ensures one.goal one.one_goal in
-    IfOk-weaker c.write_library.result (λ text. string_bytes text ≡ library_text f c.from_ref.result.now) (λ text. IsLibraryText f c.args.bound (string_bytes text))
-    (λ text written. text_of f one.goal c.args.bound c.in_ok-answer.answer _ _ one.one_goal right c.from_ref.ensures.value written) c.write_library.ensures
+    IfOk-weaker c.write_library.result (λ text. string_bytes text ≡ library_text f c.from_ref.result.now)
+    (λ text. IsLibraryText f c.args.bound (string_bytes text))
+    (λ text written. text_of f one.goal c.args.bound c.in_ok-answer.answer _ _ one.one_goal right
+    c.from_ref.ensures.value written) c.write_library.ensures

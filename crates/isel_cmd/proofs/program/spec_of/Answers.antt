@@ -10,4 +10,5 @@ pub returns-in-Err-Outside-clause-outside : goal.returns-in-Err-Outside-clause-o
 returns-in-Err-Outside-clause-outside g c =
     λ bytes told o f is. let same = rw told at c.in-Ok.ensures.bytes in
     let P : List ℕ → Type 0 = λ b. IsFirstFile b f in
-    c.in-Err-Outside.ensures.outside (ap (λ e. Err e) c.in-Err-Outside.field-0-is) f (subst P (sym (c.deref.ensures.value ∙ same)) is)
+    c.in-Err-Outside.ensures.outside (ap (λ e. Err e) c.in-Err-Outside.field-0-is) f
+    (subst P (sym (c.deref.ensures.value ∙ same)) is)

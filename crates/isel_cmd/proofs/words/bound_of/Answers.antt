@@ -9,7 +9,8 @@ returns-in-text-clause-some c = (c.in-text.is ∙ sym (decimal_digit 0 (omega ar
 pub returns-in-text-2-clause-some : goal.returns-in-text-2-clause-some
 returns-in-text-2-clause-some c = (c.in-text-2.is ∙ sym (decimal_digit 1 (omega arith)), omega arith)
 
-none_of : (word : List ℕ) → (word ≡ 48 ∷ [] → ⊥) → (word ≡ 49 ∷ [] → ⊥) → (bound : ℕ) → bound ≤ 1 → word ≡ decimal bound → ⊥
+none_of : (word : List ℕ) → (word ≡ 48 ∷ [] → ⊥) → (word ≡ 49 ∷ [] → ⊥) → (bound : ℕ) → bound ≤ 1 → word ≡ decimal bound
+    → ⊥
 none_of word no_zero no_one zero h e = no_zero (e ∙ decimal_digit 0 (omega arith))
 none_of word no_zero no_one (suc zero) h e = no_one (e ∙ decimal_digit 1 (omega arith))
 none_of word no_zero no_one (suc (suc bound)) h e = omega (arith, h)

@@ -41,7 +41,8 @@ returns-clause-gives c = first_of (search rules, grind (arith, common_steps))
 pub returns-clause-told : goal.returns-clause-told
 returns-clause-told c =
     let P : MemoryFiles → Type 0 = λ s. 1 ≤ s.step in
-    told c.args.self.now c.args.name.now c.args.place (length c.args.into.now) (Ok c.in-Some.count) c.read_named.new.into
+    told c.args.self.now c.args.name.now c.args.place (length c.args.into.now)
+    (Ok c.in-Some.count) c.read_named.new.into
     (subst P c.self.view_is c.self.invariant) c.read_named.auto.into (returns-clause-gives c)
 
 pub returns-clause-stays : goal.returns-clause-stays
