@@ -1,3 +1,6 @@
+//! The form of the command line, and the command that words of that form are. Words are of one form at
+//! most.
+
 ghost use Rattle.std.specs.Prelude.{◌≡◌, ℕ, List, map, MatchOption, IfSome, IfNone, IsTrue, ◌↔◌, ◌≤◌};
 ghost use Rattle.std.specs.String.{string_bytes};
 ghost use Rattle.std.specs.Fmt.{decimal};

@@ -14,271 +14,102 @@ fn is_read(alloc: Global, bytes: &[u8]) -> Result<bool, AllocError> {
     }
 }
 
+/// Cases, a line each: whether the bytes are read, what the case shows, and the bytes.
+const FILES: &str = "\
+read: a narrow pointer: (isel-spec 1 1) (op o () () (#b1)) (goal g () 0 (#b1))
+refused: a comment: (isel-spec 1 32) (op o () () (#b1)) (goal g () 0 (#b1)) ; c
+refused: unclosed: (isel-spec 1 32) (op o () () (#b1)) (goal g () 0 (#b1)
+refused: stray: (isel-spec 1 32) (op o () () (#b1)) (goal g () 0 (#b1)))
+refused: a word in place of a list: isel-spec (op o () () (#b1)) (goal g () 0 (#b1))
+refused: another head: (isel 1 32) (op o () () (#b1)) (goal g () 0 (#b1))
+refused: another version: (isel-spec 01 32) (op o () () (#b1)) (goal g () 0 (#b1))
+refused: too wide a pointer: (isel-spec 1 65) (op o () () (#b1)) (goal g () 0 (#b1))
+refused: no width of a pointer: (isel-spec 1 0) (op o () () (#b1)) (goal g () 0 (#b1))
+refused: no goal: (isel-spec 1 32) (op o () () (#b1))
+refused: no operation: (isel-spec 1 32) (goal g () 0 (#b1))
+refused: only a head: (isel-spec 1 32)
+";
+
+/// Cases, a line each: whether the file is read, what the case shows, and what follows the head and the
+/// operation `(op p () () (#b1))`.
+const DEFINITIONS: &str = "\
+read: names as operators: (op bvand ((bvor (_ BitVec 4))) () ((bvsub bvor #x1))) (goal g () 0 (#b1))
+read: 12 bits of inputs: (goal g ((reg a (_ BitVec 12))) 65535 (a))
+refused: 13 bits of inputs: (goal g ((reg a (_ BitVec 12)) (reg b (_ BitVec 1))) 0 (a))
+refused: two goals: (goal g () 0 (#b1)) (goal h () 0 (#b1))
+refused: two goals of a name: (goal g () 0 (#b1)) (goal g () 0 (#b1))
+refused: two operations of a name: (op p () () (#b1)) (goal g () 0 (#b1))
+refused: a goal and an operation of a name: (goal p () 0 (#b1))
+refused: a word as an item: o (goal g () 0 (#b1))
+refused: an empty item: () (goal g () 0 (#b1))
+refused: a list as the head of an item: ((op) o () () (#b1)) (goal g () 0 (#b1))
+refused: another head of an item: (ops o () () (#b1)) (goal g () 0 (#b1))
+refused: too few parts: (op o () (#b1)) (goal g () 0 (#b1))
+refused: too many parts: (op o () () (#b1) (#b1)) (goal g () 0 (#b1))
+refused: an attribute: (op o () ((k (_ BitVec 1))) (#b1)) (goal g () 0 (#b1))
+refused: no result: (op o () () ()) (goal g () 0 (#b1))
+refused: two results: (op o () () (#b1 #b0)) (goal g () 0 (#b1))
+refused: a result that is no list: (op o () () #b1) (goal g () 0 (#b1))
+refused: too high a cost: (goal g () 65536 (#b1))
+refused: a cost with a leading zero: (goal g () 00 (#b1))
+refused: a list as a cost: (goal g () () (#b1))
+refused: an immediate argument: (goal g ((imm a (_ BitVec 1))) 0 (a))
+refused: an argument of no kind: (goal g ((a (_ BitVec 1))) 0 (a))
+refused: an argument with a kind: (op o ((reg a (_ BitVec 1))) () (a)) (goal g () 0 (#b1))
+refused: a word as an argument: (op o (a) () (#b1)) (goal g () 0 (#b1))
+refused: a list as an argument's name: (op o (((a) (_ BitVec 1))) () (#b1)) (goal g () 0 (#b1))
+refused: a truth value: (op o ((a Bool)) () (#b1)) (goal g () 0 (#b1))
+refused: another family of sorts: (op o ((a (_ FloatingPoint 1))) () (#b1)) (goal g () 0 (#b1))
+refused: an argument of 65 bits: (op o ((a (_ BitVec 65))) () (#b1)) (goal g () 0 (#b1))
+refused: an argument of no bits: (op o ((a (_ BitVec 0))) () (#b1)) (goal g () 0 (#b1))
+refused: two arguments of a name: (op o ((a (_ BitVec 1)) (a (_ BitVec 1))) () (a)) (goal g () 0 (#b1))
+refused: no name: (op 1o () () (#b1)) (goal g () 0 (#b1))
+refused: a truth value as a name: (op true () () (#b1)) (goal g () 0 (#b1))
+refused: `()` as a term: (op o () () (())) (goal g () 0 (#b1))
+refused: a list as the head of a term: (op o () () (((bvnot) #b1))) (goal g () 0 (#b1))
+refused: no digit: (op o () () (#b)) (goal g () 0 (#b1))
+refused: another digit: (op o () () (#b2)) (goal g () 0 (#b1))
+refused: 68 bits of digits: (op o () () (#x12345678901234567)) (goal g () 0 (#b1))
+refused: a name of nothing: (op o () () (x)) (goal g () 0 (#b1))
+refused: a name of another definition's: (op o ((x (_ BitVec 1))) () (x)) (goal g () 0 (x))
+refused: no operator: (op o () () ((bvshl #b1 #b1))) (goal g () 0 (#b1))
+refused: two widths: (op o () () ((bvadd #b1 #b11))) (goal g () 0 (#b1))
+refused: too many operands: (op o () () ((bvnot #b1 #b1))) (goal g () 0 (#b1))
+refused: too few operands: (op o () () ((bvand #b1))) (goal g () 0 (#b1))
+";
+
+/// The parts of a case's line.
+fn case_of(line: &str) -> Option<(bool, &str, &str)> {
+    let (expected, rest) = line.split_once(": ")?;
+    let (name, text) = rest.split_once(": ")?;
+    Some((expected == "read", name, text))
+}
+
 #[test]
 fn bytes_of_the_form_are_read_and_no_others(rt: HostRuntime) -> Result<(), Fail> {
     let alloc = rt.alloc();
-    let cases: [(&str, &[u8], bool); 16] = [
-        (
-            "the goal first",
-            b"(isel-spec 1 64)(goal g()0(#xfF))\t( op o ( ) ( ) ( #b10 ) )\r\n",
-            true,
-        ),
-        (
-            "a narrow pointer",
-            b"(isel-spec 1 1) (op o () () (#b1)) (goal g () 0 (#b1))",
-            true,
-        ),
-        ("no byte", b"", false),
-        (
-            "a comment",
-            b"(isel-spec 1 32) (op o () () (#b1)) (goal g () 0 (#b1)) ; c",
-            false,
-        ),
-        (
-            "no text",
-            b"(isel-spec 1 32) (op o () () (#b1)) (goal g () 0 (#b1))\0",
-            false,
-        ),
-        (
-            "unclosed",
-            b"(isel-spec 1 32) (op o () () (#b1)) (goal g () 0 (#b1)",
-            false,
-        ),
-        (
-            "stray",
-            b"(isel-spec 1 32) (op o () () (#b1)) (goal g () 0 (#b1)))",
-            false,
-        ),
-        ("257 deep", &[b'('; 257], false),
-        (
-            "a word in place of a list",
-            b"isel-spec (op o () () (#b1)) (goal g () 0 (#b1))",
-            false,
-        ),
-        (
-            "another head",
-            b"(isel 1 32) (op o () () (#b1)) (goal g () 0 (#b1))",
-            false,
-        ),
-        (
-            "another version",
-            b"(isel-spec 01 32) (op o () () (#b1)) (goal g () 0 (#b1))",
-            false,
-        ),
-        (
-            "too wide a pointer",
-            b"(isel-spec 1 65) (op o () () (#b1)) (goal g () 0 (#b1))",
-            false,
-        ),
-        (
-            "no width of a pointer",
-            b"(isel-spec 1 0) (op o () () (#b1)) (goal g () 0 (#b1))",
-            false,
-        ),
-        ("no goal", b"(isel-spec 1 32) (op o () () (#b1))", false),
-        (
-            "no operation",
-            b"(isel-spec 1 32) (goal g () 0 (#b1))",
-            false,
-        ),
-        ("only a head", b"(isel-spec 1 32)", false),
-    ];
-    for (name, bytes, expected) in cases {
-        assert!(rt; is_read(alloc, bytes)? == expected, "{name}");
+    for line in FILES.lines() {
+        let (expected, name, text) = case_of(line).ok_or("a case")?;
+        assert!(rt; is_read(alloc, text.as_bytes())? == expected, "{name}");
     }
+    let spaced = b"(isel-spec 1 64)(goal g()0(#xfF))\t( op o ( ) ( ) ( #b10 ) )\r\n";
+    assert!(rt; is_read(alloc, spaced)?);
+    assert!(rt; !is_read(alloc, b"")?);
+    assert!(rt;
+        !is_read(
+            alloc,
+            b"(isel-spec 1 32) (op o () () (#b1)) (goal g () 0 (#b1))\0"
+        )?
+    );
+    assert!(rt; !is_read(alloc, &[b'('; 257])?);
     Ok(())
 }
 
 #[test]
 fn definitions_of_the_form_are_read_and_no_others(rt: HostRuntime) -> Result<(), Fail> {
     let alloc = rt.alloc();
-    // What follows the head and the operation `(op p () () (#b1))`.
-    let cases = [
-        (
-            "names as operators",
-            "(op bvand ((bvor (_ BitVec 4))) () ((bvsub bvor #x1))) (goal g () 0 (#b1))",
-            true,
-        ),
-        (
-            "12 bits of inputs",
-            "(goal g ((reg a (_ BitVec 12))) 65535 (a))",
-            true,
-        ),
-        (
-            "13 bits of inputs",
-            "(goal g ((reg a (_ BitVec 12)) (reg b (_ BitVec 1))) 0 (a))",
-            false,
-        ),
-        (
-            "two goals",
-            "(goal g () 0 (#b1)) (goal h () 0 (#b1))",
-            false,
-        ),
-        (
-            "two goals of a name",
-            "(goal g () 0 (#b1)) (goal g () 0 (#b1))",
-            false,
-        ),
-        (
-            "two operations of a name",
-            "(op p () () (#b1)) (goal g () 0 (#b1))",
-            false,
-        ),
-        (
-            "a goal and an operation of a name",
-            "(goal p () 0 (#b1))",
-            false,
-        ),
-        ("a word as an item", "o (goal g () 0 (#b1))", false),
-        ("an empty item", "() (goal g () 0 (#b1))", false),
-        (
-            "a list as the head of an item",
-            "((op) o () () (#b1)) (goal g () 0 (#b1))",
-            false,
-        ),
-        (
-            "another head of an item",
-            "(ops o () () (#b1)) (goal g () 0 (#b1))",
-            false,
-        ),
-        (
-            "too few parts",
-            "(op o () (#b1)) (goal g () 0 (#b1))",
-            false,
-        ),
-        (
-            "too many parts",
-            "(op o () () (#b1) (#b1)) (goal g () 0 (#b1))",
-            false,
-        ),
-        (
-            "an attribute",
-            "(op o () ((k (_ BitVec 1))) (#b1)) (goal g () 0 (#b1))",
-            false,
-        ),
-        ("no result", "(op o () () ()) (goal g () 0 (#b1))", false),
-        (
-            "two results",
-            "(op o () () (#b1 #b0)) (goal g () 0 (#b1))",
-            false,
-        ),
-        (
-            "a result that is no list",
-            "(op o () () #b1) (goal g () 0 (#b1))",
-            false,
-        ),
-        ("too high a cost", "(goal g () 65536 (#b1))", false),
-        ("a cost with a leading zero", "(goal g () 00 (#b1))", false),
-        ("a list as a cost", "(goal g () () (#b1))", false),
-        (
-            "an immediate argument",
-            "(goal g ((imm a (_ BitVec 1))) 0 (a))",
-            false,
-        ),
-        (
-            "an argument of no kind",
-            "(goal g ((a (_ BitVec 1))) 0 (a))",
-            false,
-        ),
-        (
-            "an argument with a kind",
-            "(op o ((reg a (_ BitVec 1))) () (a)) (goal g () 0 (#b1))",
-            false,
-        ),
-        (
-            "a word as an argument",
-            "(op o (a) () (#b1)) (goal g () 0 (#b1))",
-            false,
-        ),
-        (
-            "a list as an argument's name",
-            "(op o (((a) (_ BitVec 1))) () (#b1)) (goal g () 0 (#b1))",
-            false,
-        ),
-        (
-            "a truth value",
-            "(op o ((a Bool)) () (#b1)) (goal g () 0 (#b1))",
-            false,
-        ),
-        (
-            "another family of sorts",
-            "(op o ((a (_ FloatingPoint 1))) () (#b1)) (goal g () 0 (#b1))",
-            false,
-        ),
-        (
-            "an argument of 65 bits",
-            "(op o ((a (_ BitVec 65))) () (#b1)) (goal g () 0 (#b1))",
-            false,
-        ),
-        (
-            "an argument of no bits",
-            "(op o ((a (_ BitVec 0))) () (#b1)) (goal g () 0 (#b1))",
-            false,
-        ),
-        (
-            "two arguments of a name",
-            "(op o ((a (_ BitVec 1)) (a (_ BitVec 1))) () (a)) (goal g () 0 (#b1))",
-            false,
-        ),
-        ("no name", "(op 1o () () (#b1)) (goal g () 0 (#b1))", false),
-        (
-            "a truth value as a name",
-            "(op true () () (#b1)) (goal g () 0 (#b1))",
-            false,
-        ),
-        (
-            "`()` as a term",
-            "(op o () () (())) (goal g () 0 (#b1))",
-            false,
-        ),
-        (
-            "a list as the head of a term",
-            "(op o () () (((bvnot) #b1))) (goal g () 0 (#b1))",
-            false,
-        ),
-        ("no digit", "(op o () () (#b)) (goal g () 0 (#b1))", false),
-        (
-            "another digit",
-            "(op o () () (#b2)) (goal g () 0 (#b1))",
-            false,
-        ),
-        (
-            "68 bits of digits",
-            "(op o () () (#x12345678901234567)) (goal g () 0 (#b1))",
-            false,
-        ),
-        (
-            "a name of nothing",
-            "(op o () () (x)) (goal g () 0 (#b1))",
-            false,
-        ),
-        (
-            "a name of another definition's",
-            "(op o ((x (_ BitVec 1))) () (x)) (goal g () 0 (x))",
-            false,
-        ),
-        (
-            "no operator",
-            "(op o () () ((bvshl #b1 #b1))) (goal g () 0 (#b1))",
-            false,
-        ),
-        (
-            "two widths",
-            "(op o () () ((bvadd #b1 #b11))) (goal g () 0 (#b1))",
-            false,
-        ),
-        (
-            "too many operands",
-            "(op o () () ((bvnot #b1 #b1))) (goal g () 0 (#b1))",
-            false,
-        ),
-        (
-            "too few operands",
-            "(op o () () ((bvand #b1))) (goal g () 0 (#b1))",
-            false,
-        ),
-    ];
-    for (name, items, expected) in cases {
+    for line in DEFINITIONS.lines() {
+        let (expected, name, items) = case_of(line).ok_or("a case")?;
         let mut text = String::from_str(alloc, "(isel-spec 1 32) (op p () () (#b1)) ")?;
         text.push_str(items)?;
         assert!(rt; is_read(alloc, text.as_bytes())? == expected, "{name}");
