@@ -9,7 +9,7 @@ use Rattle.std.proofs.lemmas.Bool.{false≢true, and_parts}
 use Rattle.std.proofs.lemmas.Bool.Decides.{Decides-eqb}
 use Rattle.std.proofs.lemmas.Cmp.{nat_eq_equiv}
 use Rattle.std.proofs.lemmas.List.{get_or_at, take_more, get_or-drop, length-drop, take_at, get_or-append-add}
-use Rattle.std.proofs.lemmas.List.{at_drop_more}
+use Rattle.std.proofs.lemmas.List.{at_drop_more, length-take-le}
 use Rattle.std.proofs.lemmas.List.Elements.{Contains-append_right, All-contains, All-cons, All-nil}
 use Rattle.std.proofs.lemmas.List.Elements.{Contains-append_cases, All-same, All-take}
 use Rattle.std.proofs.lemmas.List.Folds.{list_all-append}
@@ -41,6 +41,11 @@ pub two_elements : {A : Type 0} (xs : List A) (d : A) → 2 ≤ length xs → le
     → xs ≡ slice_index_or xs 0 d ∷ slice_index_or xs 1 d ∷ []
 two_elements [] d l h = absurd (omega arith)
 two_elements (x ∷ xs) d l h = ap (λ ys. x ∷ ys) (one_element xs d (omega arith) (omega arith))
+
+pub three_elements : {A : Type 0} (xs : List A) (d : A) → 3 ≤ length xs → length xs < 4
+    → xs ≡ slice_index_or xs 0 d ∷ slice_index_or xs 1 d ∷ slice_index_or xs 2 d ∷ []
+three_elements [] d l h = absurd (omega arith)
+three_elements (x ∷ xs) d l h = ap (λ ys. x ∷ ys) (two_elements xs d (omega arith) (omega arith))
 
 pub Contains-first : {X : Type 0} (x : X) (xs : List X) → Contains (x ∷ xs) x
 Contains-first x xs = (zero, omega arith, refl)
@@ -147,6 +152,20 @@ slice_range-more {X} xs from k x le e =
     get_or-drop from xs (k - from) x ∙ ap (λ n. get_or xs n x) (omega arith) ∙ get_or_from_slice_get xs k x x e in
     ap (λ n. take n (drop from xs)) (omega arith) ∙ take_more (drop from xs) (k - from) x (omega arith)
     ∙ ap (λ y. take (k - from) (drop from xs) ++ y ∷ []) here
+
+pub slice_range-one : {X : Type 0} (xs : List X) (k : ℕ) (x : X) → slice_get xs k ≡ Some x
+    → slice_range xs k (k + 1) ≡ x ∷ []
+slice_range-one xs k x e =
+    let none : k - k ≡ 0 = omega arith in
+    slice_range-more xs k k x (omega arith) e ∙ ap (λ n. take n (drop k xs) ++ x ∷ []) none
+
+pub slice_range-end : {X : Type 0} (xs : List X) (from to : ℕ) → from ≤ to → to ≤ length xs
+    → from + length (slice_range xs from to) ≡ to
+slice_range-end xs from to le within =
+    let len = length-drop from xs in
+    let all : length (slice_range xs from to) ≡ to - from =
+    length-take-le (to - from) (drop from xs) (omega arith) in
+    omega arith
 
 -- what an element of a list is doesn't depend on what stands past its end
 pub same-element : {A : Type 0} (xs : List A) (k : ℕ) (d e : A) → k < length xs → get_or xs k d ≡ get_or xs k e
@@ -383,3 +402,8 @@ All-at_place P xs i x l e h = subst P (sym e) (h i x l)
 pub All-one : {X : Type 0} (P : X → Type 0) (x : X) → P x → All P (x ∷ [])
 All-one P x h zero d l = h
 All-one P x h (suc k) d l = absurd (omega (arith, l))
+
+pub all-map : {A B : Type 0} (P : B → Type 0) (f : A → B) (xs : List A) → AllByRecursion (λ x. P (f x)) xs
+    → AllByRecursion P (map f xs)
+all-map P f [] all = tt
+all-map P f (x ∷ xs) all = (all.0, all-map P f xs all.1)

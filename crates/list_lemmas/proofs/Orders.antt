@@ -1,13 +1,15 @@
 -- Orders of numbers and of lists, and lists that rise.
 use Rattle.list_lemmas.proofs.Lists.{Each}
 use Rattle.list_lemmas.proofs.Members.{In, In_of_filter, In_of_map, In-append_cases, In_of_flat_map, In_of_range}
-use Rattle.list_lemmas.proofs.Members.{In-get_or, In-slice_get}
+use Rattle.list_lemmas.proofs.Members.{In-get_or, In-slice_get, Contains-from_In}
 use Rattle.std.proofs.Common.{List, [], ◌∷◌, refl, inl, inr, Bool, true, false, cond, filter, map, subst, ◌++◌, ℕ}
-use Rattle.std.proofs.Common.{zero, suc, ◌+◌, ◌<◌, arith, get_or, ◌≡◌, Some, ap, slice_get, length, drop, min, ◌∙◌}
+use Rattle.std.proofs.Common.{◌≤◌, zero, suc, ◌+◌, ◌<◌, arith, get_or, ◌≡◌, Some, ap, slice_get, length, drop, min}
+use Rattle.std.proofs.Common.{◌∙◌, sym}
 use Rattle.std.proofs.lemmas.Bool.Decides.{nat_tests}
 use Rattle.std.specs.Cmp.Lexicographic.{slice_cmp}
 use Rattle.std.specs.List.{flat_map, range_with_len}
-use Rattle.std.specs.Ordering.{nat_cmp, ordering_then}
+use Rattle.std.specs.Cmp.{ranks}
+use Rattle.std.specs.Ordering.{nat_cmp, ordering_then, ordering_index, MatchOrdering}
 use Rattle.std.specs.Prelude.{AllPairs}
 use Rattle.std.specs.declared.cmp.Ordering.{Ordering}
 use Rattle.std.specs.declared.cmp.Ordering.TheVariants.{Less, Equal, Greater}
@@ -68,6 +70,13 @@ AllPairs-from_ordered R (x ∷ xs) h (suc i) zero d l k = absurd (omega arith)
 AllPairs-from_ordered R (x ∷ xs) h (suc i) (suc j) d l k =
     AllPairs-from_ordered R xs h.1 i j d (omega arith) (omega arith)
 
+pub ordered-from_AllPairs : {X : Type 0} (R : X → X → Type 0) (xs : List X) → AllPairs R xs → IsOrdered R xs
+ordered-from_AllPairs R [] h = tt
+ordered-from_AllPairs {X} R (x ∷ xs) h = (
+  λ y i. let c = Contains-from_In xs y i in subst (R x) c.2 (h zero (suc c.0) y (omega arith) (omega arith)),
+  ordered-from_AllPairs R xs (λ i j d l k. h (suc i) (suc j) d (omega arith) (omega arith)),
+)
+
 -- where nothing stands in R to itself, nothing stands twice
 pub once_in_order : {X : Type 0} (R : X → X → Type 0) → ((x : X) → R x x → ⊥) → (xs : List X) (i j : ℕ) (x : X)
     → IsOrdered R xs → slice_get xs i ≡ Some x → slice_get xs j ≡ Some x → i ≡ j
@@ -78,6 +87,32 @@ once_in_order {X} R strict (y ∷ ys) zero (suc j) x h e g = let s : y ≡ x = c
 once_in_order {X} R strict (y ∷ ys) (suc i) zero x h e g = let s : y ≡ x = cc in
     absurd (strict x (subst (λ z. R z x) s (h.0 x (In-slice_get ys i x e))))
 once_in_order R strict (y ∷ ys) (suc i) (suc j) x h e g = ap suc (once_in_order R strict ys i j x h.1 e g)
+
+-- two lists in a strict order with the same elements are the same
+same_firsts : {X : Type 0} (R : X → X → Type 0) → ((x y : X) → R x y → R y x → ⊥) → (x y : X) (xs ys : List X)
+    → IsOrdered R (x ∷ xs) → IsOrdered R (y ∷ ys) → In (y ∷ ys) x → In (x ∷ xs) y → x ≡ y
+same_firsts R strict x y xs ys h k (inl e) g = sym e
+same_firsts R strict x y xs ys h k (inr i) (inl e) = e
+same_firsts R strict x y xs ys h k (inr i) (inr j) = absurd (strict x y (h.0 y j) (k.0 x i))
+
+among_later : {X : Type 0} (R : X → X → Type 0) → ((x y : X) → R x y → R y x → ⊥) → (x y : X) (xs ys : List X) (z : X)
+    → IsOrdered R (x ∷ xs) → x ≡ y → In xs z → In (y ∷ ys) z → In ys z
+among_later R strict x y xs ys z h same i (inr j) = j
+among_later {X} R strict x y xs ys z h same i (inl e) =
+    let twice : R x x = subst (R x) (sym (same ∙ e)) (h.0 z i) in
+    absurd (strict x x twice twice)
+
+pub same_in_order : {X : Type 0} (R : X → X → Type 0) → ((x y : X) → R x y → R y x → ⊥) → (xs ys : List X)
+    → IsOrdered R xs → IsOrdered R ys → ((x : X) → In xs x → In ys x) → ((x : X) → In ys x → In xs x) → xs ≡ ys
+same_in_order R strict [] [] h k f g = refl
+same_in_order R strict [] (y ∷ ys) h k f g = absurd (g y (inl refl))
+same_in_order R strict (x ∷ xs) [] h k f g = absurd (f x (inl refl))
+same_in_order {X} R strict (x ∷ xs) (y ∷ ys) h k f g =
+    let first : x ≡ y = same_firsts R strict x y xs ys h k (f x (inl refl)) (g y (inl refl)) in
+    let rest : xs ≡ ys = same_in_order R strict xs ys h.1 k.1
+    (λ z i. among_later R strict x y xs ys z h first i (f z (inr i)))
+    (λ z i. among_later R strict y x ys xs z k (sym first) i (g z (inr i))) in
+    λ j. first j ∷ rest j
 
 -- before in lexicographic order
 abbrev pub Before : List ℕ → List ℕ → Type 0
@@ -144,3 +179,17 @@ same_lists P R same (x ∷ xs) (y ∷ ys) a b e =
     let first = same x y a.0 b.0 (then_first (R x y) (slice_cmp R xs ys) e) in
     let rest = same_lists P R same xs ys a.1 b.1 (then_second (R x y) (slice_cmp R xs ys) e) in
     λ i. first i ∷ rest i
+
+-- what a comparison of numbers tells
+pub nat_cmp-is_less : (x y : ℕ) → nat_cmp x y ≡ Less → x < y
+nat_cmp-is_less x y h = subst (λ o. MatchOrdering o (x < y) (x ≡ y) (y < x)) h (ranks x y)
+
+pub nat_cmp-is_equal : (x y : ℕ) → nat_cmp x y ≡ Equal → x ≡ y
+nat_cmp-is_equal x y h = subst (λ o. MatchOrdering o (x < y) (x ≡ y) (y < x)) h (ranks x y)
+
+pub nat_cmp-is_greater : (x y : ℕ) → nat_cmp x y ≡ Greater → y < x
+nat_cmp-is_greater x y h = subst (λ o. MatchOrdering o (x < y) (x ≡ y) (y < x)) h (ranks x y)
+
+-- a greater number compares no lower
+pub nat_cmp-rises : (a b x : ℕ) → a ≤ b → ordering_index (nat_cmp a x) ≤ ordering_index (nat_cmp b x)
+nat_cmp-rises a b x le = grind (arith, nat_tests)

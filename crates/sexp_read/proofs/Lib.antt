@@ -1,3 +1,5 @@
+pub mod ModeLemmas
+pub mod LexicalLemmas
 pub mod TreeLemmas
 pub mod PartialLemmas
 pub mod BuilderLemmas

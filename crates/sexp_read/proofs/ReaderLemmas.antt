@@ -1,10 +1,10 @@
 -- What a reader has read after each byte.
-use Rattle.std.proofs.Common.{◌≡◌, ◌≢◌, ℕ, ◌+◌, ◌-◌, ◌<◌, ◌≤◌, ◌⊎◌, true, false, List, [], ◌∷◌, ◌++◌, length, get_or}
-use Rattle.std.proofs.Common.{take, drop, slice_get, slice_range, Some, Result, Ok, Err, refl, sym, ap, subst, ◌∙◌, inl}
+use Rattle.std.proofs.Common.{◌≡◌, ◌≢◌, ℕ, ◌+◌, ◌<◌, ◌≤◌, ◌⊎◌, true, false, List, [], ◌∷◌, ◌++◌, length, get_or}
+use Rattle.std.proofs.Common.{drop, slice_get, slice_range, Some, Result, Ok, Err, refl, sym, ap, subst, ◌∙◌, inl}
 use Rattle.std.proofs.Common.{inr, arith, append_assoc, IfOk, IfErr}
 use Rattle.std.specs.Prelude.{IsTrue}
 use Rattle.std.specs.List.{list_all}
-use Rattle.std.proofs.lemmas.List.{append-nil, drop_more, drop_all, length-drop, length-take-le}
+use Rattle.std.proofs.lemmas.List.{append-nil, drop_more, drop_all}
 use Rattle.std.proofs.lemmas.List.Sums.{list_all-from_AllPass}
 use Rattle.std.proofs.lemmas.Bool.{cases_lt}
 use Rattle.std.proofs.lemmas.Option.{slice_get_within, slice_get-get_or, get_or_from_slice_get}
@@ -26,7 +26,7 @@ use Rattle.sexp_read.specs.Progress.{IsFaultless, HasBuilt, mode_of, BeganBefore
 use Rattle.sexp_read.specs.Progress.{Holds, LeavesOpen}
 use Rattle.sexp_read.proofs.FaultLemmas.{none-earlier, none-stands, trees-shallow, reading-unique, reading-faultless}
 use Rattle.sexp_read.proofs.FaultLemmas.{fault-unique}
-use Rattle.list_lemmas.proofs.Lookups.{slice_range-more}
+use Rattle.list_lemmas.proofs.Lookups.{slice_range-more, slice_range-end}
 
 -- the rest of the bytes begins with the byte at the place
 pub rest-at : (bytes : List ℕ) (place b : ℕ) → slice_get bytes place ≡ Some b
@@ -107,13 +107,6 @@ read-same bytes place old new before class read h was none same after is modes b
     (λ ts built. subst (HasBuilt (ts ++ [])) (sym same)
     (subst (λ us. HasBuilt us old.builder) (sym (append-nil ts)) built)) after is modes began
 
--- a word is its bytes so far and one more
-pub word-begins : (bytes : List ℕ) (place b : ℕ) → slice_get bytes place ≡ Some b
-    → slice_range bytes place (place + 1) ≡ b ∷ []
-word-begins bytes place b here =
-    let none : place - place ≡ 0 = omega arith in
-    slice_range-more bytes place place b (omega arith) here ∙ ap (λ n. take n (drop place bytes) ++ b ∷ []) none
-
 -- the tokens from a place on, where a word ends there
 word-ends : (first : ℕ) (word : List ℕ) (place b : ℕ) (rest : List ℕ) (class : Class) → class_of b ≡ class
     → class ≢ Letter →
@@ -136,12 +129,6 @@ word-ends first word place b rest class e apart =
     same Semicolon apart = refl
     same _ apart = refl
 
--- the word's span
-word-span : (bytes : List ℕ) (first place : ℕ) → first < place → place ≤ length bytes
-    → first + length (slice_range bytes first place) ≡ place
-word-span bytes first place lt le =
-    omega (arith, length-take-le (place - first) (drop first bytes) (omega (arith, length-drop first bytes)))
-
 pub read-word : (bytes : List ℕ) (place : ℕ) (old new : Reader) (first : ℕ) (class : Class) →
     HasRead bytes place old → HasClass bytes place class → class ≢ Letter → old.pending ≡ pending.Word first →
     ((ts : List Token) (word : List ℕ) → first + length word ≡ place → HasBuilt ts old.builder
@@ -150,7 +137,8 @@ pub read-word : (bytes : List ℕ) (place : ℕ) (old new : Reader) (first : ℕ
 read-word bytes place old new first class read h apart was builds is =
     let word : List ℕ = slice_range bytes first place in
     let began : first < place = subst (BeganBefore place) was read.began in
-    let span = word-span bytes first place began (omega (arith, slice_get_within bytes place h.byte h.here)) in
+    let within : place < length bytes = slice_get_within bytes place h.byte h.here in
+    let span = slice_range-end bytes first place (omega arith) (omega arith) in
     let here : drop place bytes ≡ h.byte ∷ drop (place + 1) bytes = rest-at bytes place h.byte h.here in
     let next : tokens_from (mode_of bytes place old.pending) place (drop place bytes)
     ≡ Atom first word ∷ tokens_from (mode_of bytes place new.pending) place (drop place bytes) =
@@ -186,7 +174,8 @@ ends-in-word bytes place reader first builder e read was builds =
     let began : first < place = subst (BeganBefore place) was read.began in
     subst (λ ts. HasBuilt ts builder)
     (sym (read-to-end bytes place reader e read ∙ ap (λ (p : Pending). read.ts ++ word_in (mode_of bytes place p)) was))
-    (builds read.ts (slice_range bytes first place) (word-span bytes first place began (omega arith)) read.built)
+    (builds read.ts (slice_range bytes first place) (slice_range-end bytes first place (omega arith) (omega arith))
+    read.built)
 
 pub ends-outside : (bytes : List ℕ) (place : ℕ) (reader : Reader) (before : Pending) → length bytes ≡ place
     → HasRead bytes place reader → reader.pending ≡ before →

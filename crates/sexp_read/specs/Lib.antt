@@ -1,4 +1,5 @@
 pub mod Token
+pub mod Lexical
 pub mod Tree
 pub mod Forest
 pub mod Fault

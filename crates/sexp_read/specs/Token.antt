@@ -1,4 +1,5 @@
--- The tokens of a text: parentheses and words, outside comments.
+-- The tokens of a text, parentheses and words outside of comments, as they are computed byte by byte. `Lexical` says
+-- by place what they are.
 use Rattle.std.specs.Prelude.{ℕ, ◌+◌, ◌==◌, ◌&&◌, ◌||◌, nat_le, Bool, if◌then◌else◌, List, [], ◌∷◌, ◌++◌}
 use Rattle.sexp_read.specs.declared.token.Class.{Class}
 use Rattle.sexp_read.specs.declared.token.Class.TheVariants.{Blank, LineFeed, Semicolon, Left, Right, Letter}

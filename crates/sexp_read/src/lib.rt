@@ -2,8 +2,9 @@
 //!
 //! `token` says what a byte does, `builder` keeps the items of the tokens so far and the lists that are
 //! open, `reader` goes over the bytes once, and `forest` is what is read, with its accessors. What bytes
-//! are which forest, and which fault comes where they are none, stands in `specs/`, from `Token` by
-//! `Tree` and `Forest` to `Fault`; `Progress` is for the reader's own functions.
+//! are which forest, and which fault comes where they are none, stands in `specs/`: `Lexical` says by place
+//! what the tokens of a text are and `Token` computes them, and from these it goes by `Tree` and `Forest`
+//! to `Fault`. `Progress` is for the reader's own functions.
 #![tactic(auto)]
 
 mod builder;

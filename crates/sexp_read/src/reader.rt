@@ -2,7 +2,8 @@
 //! and knows whether a word or a comment goes on.
 
 ghost use Rattle.std.specs.Prelude.{◌≡◌, ◌≢◌, ℕ, ◌+◌, ◌^◌, ◌<◌, ◌≤◌, ◌⊎◌, List, length, OnOk, IfOk, IfErr, IsOkUnless};
-ghost use Rattle.sexp_read.specs.Token.{tokens};
+ghost use Rattle.sexp_read.specs.Token.{Token, tokens};
+ghost use Rattle.sexp_read.specs.Lexical.{AreTokens};
 ghost use Rattle.sexp_read.specs.Tree.{Trees, flatten};
 ghost use Rattle.sexp_read.specs.Forest.{IsReading};
 ghost use Rattle.sexp_read.specs.Fault.{IsFault, IsButForMemory};
@@ -158,8 +159,9 @@ fn read_all(alloc: Global, bytes: &[u8]) -> Result<Forest, SexpFault>
 /// The words and lists of a text, in one pass over its bytes.
 ///
 /// A text is printable ASCII, tabs, line feeds and carriage returns. A `;` begins a comment up to the
-/// next line feed or the end. A word is a longest run of other bytes than blanks, parentheses and `;`.
-/// A list is `(`, words and lists, `)`, nested at most 256 deep.
+/// next line feed or the end, and in a comment parentheses and `;` have no meaning. Outside of comments
+/// a word is a longest run of other bytes than blanks, parentheses and `;`, and a list is `(`, words and
+/// lists, `)`, nested at most 256 deep.
 pub fn read(alloc: Global, bytes: &[u8]) -> Result<Forest, SexpFault>
     // What is read is the text.
     ensures reading { IfOk result (IsReading bytes.now) }
@@ -170,12 +172,17 @@ pub fn read(alloc: Global, bytes: &[u8]) -> Result<Forest, SexpFault>
     ensures fault { IfErr result (λ fault. (fault ≡ SexpFault.NoMemory) ⊎ IsFault bytes.now fault) }
     // Where the bytes have a fault, that fault is answered.
     ensures every_fault { (fault : SexpFault) → IsFault bytes.now fault → IsButForMemory (Err fault) result }
+
+    // The tokens by which both are defined are all parentheses and words that stand outside of comments.
+    ensures tokens { AreTokens bytes.now (tokens bytes.now) }
 {
     read_all(alloc, bytes)
 }
 
-/// A text is at most one list of trees, so it has at most one reading.
+/// A text has only one list of tokens, and they spell at most one list of trees, so it has at most one reading.
 pub fn one_reading()
+    ensures tokens { (bytes : List ℕ) (some others : List Token) →
+        AreTokens bytes some → AreTokens bytes others → some ≡ others }
     ensures trees { (bytes : List ℕ) (some others : Trees) →
         tokens bytes ≡ flatten some → tokens bytes ≡ flatten others → some ≡ others }
     ensures forest { (bytes : List ℕ) (some other : Forest) →

@@ -4,7 +4,8 @@ use Rattle.sexp_read.specs.Token.{Open, Close, Within}
 use Rattle.sexp_read.specs.Progress.{HasClass}
 use Rattle.sexp_read.specs.declared.reader.Pending.TheVariants as pending
 use Rattle.sexp_read.specs.declared.token.Class.TheVariants as class
-use Rattle.sexp_read.proofs.ReaderLemmas.{read-more, read-same, word-begins, refuses-deep, refuses-stray, reads-blank}
+use Rattle.sexp_read.proofs.ReaderLemmas.{read-more, read-same, refuses-deep, refuses-stray, reads-blank}
+use Rattle.list_lemmas.proofs.Lookups.{slice_range-one}
 use Rattle.sexp_read.proofs.reader.Reader.step_between.Goals as goal
 
 pub returns-in-Left-clause-ok : goal.returns-in-Left-clause-ok
@@ -49,7 +50,7 @@ returns-in-Letter-clause-ok c = λ bytes read here.
     read-same bytes place c.args.self.now _ pending.Nothing class.Letter read
     (subst (HasClass bytes place) c.in-Letter.is here)
     c.requires.nothing refl refl (pending.Word place) refl
-    (ap (Within place) (word-begins bytes place here.byte here.here)) (omega arith)
+    (ap (Within place) (slice_range-one bytes place here.byte here.here)) (omega arith)
 
 pub returns-in-Blank-clause-ok : goal.returns-in-Blank-clause-ok
 returns-in-Blank-clause-ok c = reads-blank c.args.self.now c.args.class c.args.place c.requires.nothing c.in-Blank.is
