@@ -1,65 +1,55 @@
 -- The values that stand by place.
 use Rattle.std.proofs.Common.{◌≡◌, ◌≢◌, ℕ, ◌+◌, ◌<◌, ◌≤◌, List, [], ◌∷◌, ◌++◌, ◌⊎◌, inl, inr, Contains}
-use Rattle.std.proofs.Common.{length, slice_get, slice_set, slice_index_or, unwrap_or, None, Some, All, false, refl}
+use Rattle.std.proofs.Common.{length, slice_get, slice_set, unwrap_or, option_map, None, Some, All, false, refl}
 use Rattle.std.proofs.Common.{sym, ap, ◌∙◌, subst, ⊎_elim, arith}
 use Rattle.std.specs.List.{AllByRecursion}
 use Rattle.std.proofs.lemmas.Bool.{cases_lt}
-use Rattle.std.proofs.lemmas.List.Elements.{All-head, All-tail, All-weaker, All-push, All-from_recursion}
-use Rattle.std.proofs.lemmas.List.Elements.{recursion_from_All, Contains-append_left, Contains-push}
-use Rattle.std.proofs.lemmas.Option.{slice_get-get_or, slice_get_within}
+use Rattle.std.proofs.lemmas.List.Elements.{All-weaker, All-push, All-from_recursion}
+use Rattle.std.proofs.lemmas.List.Elements.{recursion_from_All, Contains-append_left, Contains-push, All-append}
+use Rattle.std.proofs.lemmas.List.Elements.{All-replicate}
+use Rattle.std.proofs.lemmas.Option.{same_Some, slice_get-map, slice_get_within}
+use Rattle.bv_terms.specs.declared.node.Node.{Node}
 use Rattle.bv_terms.specs.declared.op.Op.{Op}
 use Rattle.bv_terms.specs.declared.op.TermId.{TermId}
 use Rattle.bv_terms.specs.declared.value.Sort.{Sort}
 use Rattle.bv_terms.specs.declared.value.Value.{Value}
 use Rattle.bv_terms.specs.declared.value.Value.TheVariants as val
-use Rattle.bv_terms.specs.declared.op.Op.TheVariants as op
 use Rattle.bv_terms.specs.Term.{Term, Operands, Apply, op_value, value, values}
-use Rattle.bv_terms.specs.Sorts.{HaveSorts, arity, refusal, sort_of, sorts_of, AreSized, InputFits, InputsFit}
-use Rattle.bv_terms.specs.Sorts.{AllInputsFit}
+use Rattle.bv_terms.specs.Sorts.{HaveSorts}
+use Rattle.bv_terms.specs.Signature.{refusal}
+use Rattle.bv_terms.specs.WellSorted.{sort_of, sorts_of, InputFits, InputsFit}
+use Rattle.bv_terms.specs.WellSorted.{AllInputsFit}
 use Rattle.bv_terms.specs.Table.{Entry, Table, term_in, operands, terms_of, term_at, IsTable}
-use Rattle.bv_terms.specs.Eval.{value_in, values_in, IsValued}
-use Rattle.bv_terms.proofs.TermLemmas.{IsSorted-of, IsFitting-of, sorts_of-sized, InputsFit-parts, values-sorted}
+use Rattle.bv_terms.specs.Node.{entry_of, node_of, table_of, IsTermTable}
+use Rattle.bv_terms.specs.Eval.{values_in, IsValueOf, IsValued}
+use Rattle.bv_terms.proofs.TermLemmas.{IsSorted-of, sorts_of-sized, values-sorted}
 use Rattle.bv_terms.proofs.TableLemmas.{term_at-node}
-use Rattle.bv_terms.proofs.MakeLemmas.{node-sorted, arity-of_args}
-use Rattle.list_lemmas.proofs.Lists.{heads, tails}
+use Rattle.bv_terms.proofs.MakeLemmas.{node-sorted}
+use Rattle.bv_terms.proofs.TermTableLemmas.{kept-entry}
 use Rattle.list_lemmas.proofs.Lookups.{slice_get-set_other, slice_get-set_same}
 
-value_at : (room : List Value) (k : ℕ) (d : Value) → k < length room
-    → slice_index_or room k d ≡ unwrap_or (slice_get room k) (val.Bool false)
-value_at room k d h = sym (ap (λ o. unwrap_or o (val.Bool false)) (slice_get-get_or room k d h))
-
--- the value read for the first argument
-pub first_value : (room : List Value) (args : List TermId) (d : TermId) (e v : Value) (vs : List Value)
-    → 1 ≤ length args → All (λ (a : TermId). a.0 < length room) args
-    → values_in room args ≡ v ∷ vs → slice_index_or room (slice_index_or args 0 d).0 e ≡ v
-first_value room [] d e v vs l h s = absurd (omega arith)
-first_value room (a ∷ args) d e v vs l h s =
-    value_at room a.0 e (All-head (λ (a : TermId). a.0 < length room) a args h)
-    ∙ heads (value_in room a) v (values_in room args) vs s
-
--- and for the second
-pub second_value : (room : List Value) (args : List TermId) (d : TermId) (e u v : Value) (vs : List Value)
-    → 2 ≤ length args → All (λ (a : TermId). a.0 < length room) args
-    → values_in room args ≡ u ∷ v ∷ vs → slice_index_or room (slice_index_or args 1 d).0 e ≡ v
-second_value room [] d e u v vs l h s = absurd (omega arith)
-second_value room (a ∷ args) d e u v vs l h s =
-    first_value room args d e v vs (omega arith) (All-tail (λ (a : TermId). a.0 < length room) a args h)
-    (tails (value_in room a) u (values_in room args) (v ∷ vs) s)
-
--- a node of a table has as many arguments as its operation
-pub node-arity : (table : Table) → IsTable table → (k : ℕ) (e : Entry) → slice_get table.nodes k ≡ Some e
-    → length e.args ≡ arity e.op
-node-arity table is_table k e h =
-    let sorted = node-sorted table is_table k (slice_get_within table.nodes k e h) in
-    arity-of_args table e.op e.args sorted.0 (ap sort_of (sym (term_at-node table is_table (record { 0 = k }) e h))
-    ∙ sorted.1)
-
--- and they stand before it, so in a room for the table
+-- the arguments of a node stand before it, so in a room for the table
 pub node-below : (table : Table) → IsTable table → (k n : ℕ) (e : Entry) → slice_get table.nodes k ≡ Some e
     → length table.nodes ≤ n → All (λ (a : TermId). a.0 < n) e.args
 node-below table is_table k n e h room =
     let within = slice_get_within table.nodes k e h in
     All-weaker (λ (a : TermId). a.0 < k) (λ (a : TermId). a.0 < n) (λ a lt. omega arith) e.args (is_table.earlier k e h)
+
+-- and so do those of a kept node in all its places, since unused ones have node 0
+pub padded-below : (pointer : ℕ) (kept : List (Node × Sort)) → IsTermTable pointer kept
+    → (k n : ℕ) (m : Node) (s : Sort)
+    → slice_get kept k ≡ Some (m, s) → length (table_of pointer kept).nodes ≤ n
+    → All (λ (a : TermId). a.0 < n) m.args
+padded-below pointer kept is k n m s h room =
+    let table = table_of pointer kept in
+    let stands = kept-entry pointer kept k (m, s) h in
+    let node = same_Some m (node_of (entry_of m))
+    (sym (slice_get-map (λ (e : Node × Sort). e.0) kept k ∙ ap (option_map (λ (e : Node × Sort). e.0)) h)
+    ∙ ap (λ ns. slice_get ns k) is.padded ∙ slice_get-map node_of table.nodes k ∙ ap (option_map node_of) stands) in
+    let zero_stands : 0 < n = omega (arith, room, slice_get_within table.nodes k (entry_of m) stands) in
+    subst (λ (m : Node). All (λ (a : TermId). a.0 < n) m.args) (sym node)
+    (All-append (λ (a : TermId). a.0 < n) (entry_of m).args _ (node-below table is.table k n (entry_of m) stands room)
+    (All-replicate (λ (a : TermId). a.0 < n) _ (record { 0 = 0 }) zero_stands))
 
 -- the places below n have the values of their nodes' terms, where the inputs of these fit
 abbrev pub IsFilled : Table → List Value → List Value → ℕ → Type 0
@@ -76,11 +66,16 @@ values-valued table inputs room (a ∷ args) valued =
     ap (λ v. v ∷ values_in room args) (ap (λ o. unwrap_or o (val.Bool false)) valued.0)
     ∙ ap (λ vs. value inputs (term_at table a) ∷ vs) (values-valued table inputs room args valued.1)
 
+InputsFit-parts : (inputs : List Value) (o : Op) (ts : Operands) → InputsFit inputs (Apply o ts)
+    → InputFits inputs o × AllInputsFit inputs ts
+unfolding InputsFit
+InputsFit-parts inputs o ts h = h
+
 -- the operands of a node whose inputs fit
 record HasOperands (table : Table) (inputs : List Value) (e : Entry) : Type 0 where
   pub sorts : List Sort
-  pub of_args : sorts_of (operands (terms_of table) e.args) ≡ Some sorts
-  pub allowed : refusal e.op sorts ≡ None
+  pub of_args : sorts_of table.pointer (operands (terms_of table) e.args) ≡ Some sorts
+  pub allowed : refusal table.pointer e.op sorts ≡ None
   pub fit : AllInputsFit inputs (operands (terms_of table) e.args)
 
 node-operands : (table : Table) → IsTable table → (inputs : List Value) (at : TermId) (e : Entry)
@@ -89,14 +84,13 @@ node-operands : (table : Table) → IsTable table → (inputs : List Value) (at 
 node-operands table is_table inputs at e h fit =
     let term = term_at-node table is_table at e h in
     let node = node-sorted table is_table at.0 (slice_get_within table.nodes at.0 e h) in
-    let sorted = IsSorted-of e.op (operands (terms_of table) e.args) node.0 (ap sort_of (sym term) ∙ node.1) in
+    let sorted = IsSorted-of table.pointer e.op (operands (terms_of table) e.args) node.0
+    (ap (sort_of table.pointer) (sym term) ∙ node.1) in
     record {
       sorts = sorted.sorts;
       of_args = sorted.of_args;
       allowed = sorted.fits;
-      fit = (InputsFit-parts inputs e.op (operands (terms_of table) e.args) sorted.sorts sorted.of_args
-          (IsFitting-of e.op sorted.sorts sorted.fits)
-          (subst (InputsFit inputs) term fit)).1;
+      fit = (InputsFit-parts inputs e.op (operands (terms_of table) e.args) (subst (InputsFit inputs) term fit)).1;
     }
 
 value-apply : (inputs : List Value) (o : Op) (ts : Operands)
@@ -108,16 +102,16 @@ value-apply inputs o ts = refl
 pub step-value : (table : Table) → IsTable table → (inputs room : List Value) (at : TermId) (e : Entry)
     → slice_get table.nodes at.0 ≡ Some e
     → All (IsValued table inputs room) e.args → (r : Value)
-    → ((ss : List Sort) → refusal e.op ss ≡ None → AreSized ss → HaveSorts ss (values_in room e.args)
-    → r ≡ op_value inputs e.op (values_in room e.args))
+    → IsValueOf inputs e.op (values_in room e.args) r
     → InputsFit inputs (term_at table at) → r ≡ value inputs (term_at table at)
 step-value table is_table inputs room at e h valued r says fit =
     let ts = operands (terms_of table) e.args in
     let node = node-operands table is_table inputs at e h fit in
     let same = values-valued table inputs room e.args (recursion_from_All (IsValued table inputs room) e.args valued) in
-    let have = subst (HaveSorts node.sorts) (sym same) (values-sorted inputs ts node.sorts node.of_args node.fit) in
-    says node.sorts node.allowed (sorts_of-sized ts node.sorts node.of_args) have ∙ ap (op_value inputs e.op) same
-    ∙ sym (value-apply inputs e.op ts)
+    let have = subst (HaveSorts node.sorts) (sym same)
+    (values-sorted table.pointer inputs ts node.sorts node.of_args node.fit) in
+    says table.pointer node.sorts node.allowed (sorts_of-sized table.pointer ts node.sorts node.of_args) have
+    ∙ ap (op_value inputs e.op) same ∙ sym (value-apply inputs e.op ts)
     ∙ ap (value inputs) (sym (term_at-node table is_table at e h))
 
 args-filled : (table : Table) (inputs room : List Value) (n : ℕ) → IsFilled table inputs room n → (args : List TermId)
@@ -155,14 +149,7 @@ IsFilled-more table inputs room n r within filled here = λ k lt fit. ⊎_elim
 pub InputsFit-apply : (inputs : List Value) (o : Op) (ts : Operands) → InputFits inputs o → AllInputsFit inputs ts
     → InputsFit inputs (Apply o ts)
 unfolding InputsFit
-InputsFit-apply inputs (op.Input k s) ts h all = h
-InputsFit-apply inputs (op.Bits w n) ts h all = all
-InputsFit-apply inputs op.BvNot ts h all = all
-InputsFit-apply inputs op.BvAnd ts h all = all
-InputsFit-apply inputs op.BvOr ts h all = all
-InputsFit-apply inputs op.BvXor ts h all = all
-InputsFit-apply inputs op.BvAdd ts h all = all
-InputsFit-apply inputs op.BvSub ts h all = all
+InputsFit-apply inputs o ts h all = (h, all)
 
 AllInputsFit-operands : (inputs : List Value) (ts : List Term) (n : ℕ)
     → ((k : ℕ) → k < n → InputsFit inputs (term_in ts k)) → (args : List TermId)

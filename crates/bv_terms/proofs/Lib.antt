@@ -1,9 +1,16 @@
+pub mod SignatureLemmas
 pub mod TermLemmas
+pub mod MemoryLemmas
+pub mod NoMemory
+pub mod AccessLemmas
 pub mod TableLemmas
 pub mod NodeLemmas
 pub mod TermTableLemmas
 pub mod MakeLemmas
 pub mod WordLemmas
+pub mod ApplyLemmas
 pub mod EvalLemmas
 pub mod SubtermLemmas
 pub mod CollectLemmas
+pub mod ReplacedLemmas
+pub mod GraftLemmas

@@ -9,19 +9,20 @@ use Rattle.std.proofs.lemmas.List.Elements.{recursion_from_All}
 use Rattle.std.proofs.Math.Seq.{take-append_seam}
 use Rattle.std.proofs.lemmas.Option.{same_Some, slice_get-get_or}
 use Rattle.bv_terms.specs.declared.op.Op.{Op}
-use Rattle.bv_terms.specs.declared.op.Op.TheVariants as op
 use Rattle.bv_terms.specs.declared.op.MakeFault.{MakeFault}
 use Rattle.bv_terms.specs.declared.op.MakeFault.TheVariants as fault
 use Rattle.bv_terms.specs.declared.op.TermId.{TermId}
 use Rattle.bv_terms.specs.declared.value.Sort.{Sort}
 use Rattle.bv_terms.specs.Term.{Term, Operands, Apply, End, Then}
-use Rattle.bv_terms.specs.Sorts.{arity, misfit, fault_of, refusal, result_sort, op_sort, sort_unless, sort_of, sorts_of}
+use Rattle.bv_terms.specs.Signature.{signature, arity, misfit, fault_of, refusal, result_sort}
+use Rattle.bv_terms.specs.WellSorted.{op_sort, sort_unless, sort_of, sorts_of}
 use Rattle.bv_terms.specs.Table.{Entry, Table, term_in, operands, terms_of, term_at, make_refusal, table_with, IsTable}
 use Rattle.bv_terms.specs.Table.{Makes}
 use Rattle.bv_terms.specs.declared.node.Node.{Node}
 use Rattle.bv_terms.specs.declared.node.TheConstants.{MOST_ARGS}
 use Rattle.bv_terms.specs.Node.{entry_of, node_of}
-use Rattle.bv_terms.proofs.TermLemmas.{IsSorted-of, IsFitting-of, sorts_of-some}
+use Rattle.bv_terms.proofs.SignatureLemmas.{IsFitting-of, arity-at_most}
+use Rattle.bv_terms.proofs.TermLemmas.{IsSorted-of, sorts_of-some}
 use Rattle.bv_terms.proofs.TableLemmas.{length-terms_of, term_at-push, term_at-pushed}
 use Rattle.list_lemmas.proofs.Lookups.{slice_get-at_end}
 use Rattle.list_lemmas.proofs.Options.{the_some}
@@ -30,44 +31,44 @@ use Rattle.list_lemmas.proofs.Options.{the_some}
 
 -- ---- the sorts of operands
 
-pub sorts_of-end : sorts_of End ≡ Some []
+pub sorts_of-end : (p : ℕ) → sorts_of p End ≡ Some []
 unfolding sort_of
-sorts_of-end = refl
+sorts_of-end p = refl
 
-pub sorts_of-then : (t : Term) (ts : Operands) (s : Sort) (ss : List Sort) → sort_of t ≡ Some s → sorts_of ts ≡ Some ss
-    → sorts_of (Then t ts) ≡ Some (s ∷ ss)
+pub sorts_of-then : (p : ℕ) (t : Term) (ts : Operands) (s : Sort) (ss : List Sort) → sort_of p t ≡ Some s
+    → sorts_of p ts ≡ Some ss → sorts_of p (Then t ts) ≡ Some (s ∷ ss)
 unfolding sort_of
-sorts_of-then t ts s ss e f =
-    ap (option_and_then (λ s. option_and_then (λ ss. Some (s ∷ ss)) (sorts_of ts))) e
+sorts_of-then p t ts s ss e f =
+    ap (option_and_then (λ s. option_and_then (λ ss. Some (s ∷ ss)) (sorts_of p ts))) e
     ∙ ap (option_and_then (λ ss. Some (s ∷ ss))) f
 
-pub sort_of-apply : (o : Op) (ts : Operands) (ss : List Sort) → sorts_of ts ≡ Some ss
-    → sort_of (Apply o ts) ≡ op_sort o ss
+pub sort_of-apply : (p : ℕ) (o : Op) (ts : Operands) (ss : List Sort) → sorts_of p ts ≡ Some ss
+    → sort_of p (Apply o ts) ≡ op_sort p o ss
 unfolding sort_of
-sort_of-apply o ts ss e = ap (option_and_then (op_sort o)) e
+sort_of-apply p o ts ss e = ap (option_and_then (op_sort p o)) e
 
 -- each node's term has a sort
 pub node-sorted : (table : Table) → IsTable table → (k : ℕ) → k < length table.nodes
-    → (s : Sort) × (sort_of (term_in (terms_of table) k) ≡ Some s)
+    → (s : Sort) × (sort_of table.pointer (term_in (terms_of table) k) ≡ Some s)
 node-sorted table is_table k h =
     let within : k < length (terms_of table) = omega (arith, length-terms_of table) in
     let at = slice_get-get_or (terms_of table) k (term_in [] 0) within in
     let sorted = the_some _ (is_table.well_sorted k _ at) in
-    (sorted.0, ap (λ o. sort_of (unwrap_or o (term_in [] 0))) at ∙ sorted.1)
+    (sorted.0, ap (λ o. sort_of table.pointer (unwrap_or o (term_in [] 0))) at ∙ sorted.1)
 
 operands-sorted : (table : Table) → IsTable table → (args : List TermId)
     → AllByRecursion (λ (a : TermId). a.0 < length table.nodes) args
-    → (ss : List Sort) × (sorts_of (operands (terms_of table) args) ≡ Some ss) × (length ss ≡ length args)
-operands-sorted table is_table [] h = ([], sorts_of-end, refl)
+    → (ss : List Sort) × (sorts_of table.pointer (operands (terms_of table) args) ≡ Some ss) × (length ss ≡ length args)
+operands-sorted table is_table [] h = ([], sorts_of-end table.pointer, refl)
 operands-sorted table is_table (a ∷ args) h =
     let first = node-sorted table is_table a.0 h.0 in
     let rest = operands-sorted table is_table args h.1 in
-    (first.0 ∷ rest.0, sorts_of-then _ _ first.0 rest.0 first.1 rest.1, ap suc rest.2)
+    (first.0 ∷ rest.0, sorts_of-then table.pointer _ _ first.0 rest.0 first.1 rest.1, ap suc rest.2)
 
 -- so nodes have sorts, one each
 pub sorts_of-operands : (table : Table) → IsTable table → (args : List TermId)
     → All (λ (a : TermId). a.0 < length table.nodes) args
-    → (ss : List Sort) × (sorts_of (operands (terms_of table) args) ≡ Some ss) × (length ss ≡ length args)
+    → (ss : List Sort) × (sorts_of table.pointer (operands (terms_of table) args) ≡ Some ss) × (length ss ≡ length args)
 sorts_of-operands table is_table args h =
     operands-sorted table is_table args (recursion_from_All (λ (a : TermId). a.0 < length table.nodes) args h)
 
@@ -84,65 +85,61 @@ sort_told : (q : Option MakeFault) (s : Sort) (r : Result Sort MakeFault) → Ma
 sort_told None s r h = subst (λ r. IfOk r (λ t. Some s ≡ Some t)) (sym h) refl
 sort_told (Some g) s r h = subst (λ r. IfOk r (λ t. None ≡ Some t)) (sym h) tt
 
-pub fault-from_sorts : (table : Table) (o : Op) (args : List TermId) (ss : List Sort) (r : Result Sort MakeFault)
-    → sorts_of (operands (terms_of table) args) ≡ Some ss
-    → MatchOption (refusal o ss) (r ≡ Ok (result_sort o ss)) (λ f. r ≡ Err f)
+pub fault-from_sorts : (table : Table) (p : ℕ) → p ≡ table.pointer → (o : Op) (args : List TermId) (ss : List Sort) (r : Result Sort MakeFault)
+    → sorts_of table.pointer (operands (terms_of table) args) ≡ Some ss
+    → MatchOption (refusal p o ss) (r ≡ Ok (result_sort (signature o).result ss)) (λ f. r ≡ Err f)
     → MatchResult r (λ _. make_refusal table o args ≡ None) (λ f. make_refusal table o args ≡ Some f)
-fault-from_sorts table o args ss r e h =
-    subst (λ q. MatchResult r (λ _. q ≡ None) (λ f. q ≡ Some f)) (sym (ap (option_and_then (refusal o)) e))
-    (fault_told (refusal o ss) (result_sort o ss) r h)
+fault-from_sorts table p same o args ss r e told =
+    let h = subst (λ p. MatchOption (refusal p o ss) (r ≡ Ok (result_sort (signature o).result ss)) (λ f. r ≡ Err f)) same told
+    in
+    subst (λ q. MatchResult r (λ _. q ≡ None) (λ f. q ≡ Some f)) (sym (ap (option_and_then (refusal table.pointer o)) e))
+    (fault_told (refusal table.pointer o ss) (result_sort (signature o).result ss) r h)
 
-pub sort-from_sorts : (table : Table) (o : Op) (args : List TermId) (ss : List Sort) (r : Result Sort MakeFault)
-    → sorts_of (operands (terms_of table) args) ≡ Some ss
-    → MatchOption (refusal o ss) (r ≡ Ok (result_sort o ss)) (λ f. r ≡ Err f)
-    → IfOk r (λ s. sort_of (Apply o (operands (terms_of table) args)) ≡ Some s)
-sort-from_sorts table o args ss r e h =
-    subst (λ q. IfOk r (λ s. q ≡ Some s)) (sym (sort_of-apply o (operands (terms_of table) args) ss e))
-    (sort_told (refusal o ss) (result_sort o ss) r h)
+pub sort-from_sorts : (table : Table) (p : ℕ) → p ≡ table.pointer → (o : Op) (args : List TermId) (ss : List Sort) (r : Result Sort MakeFault)
+    → sorts_of table.pointer (operands (terms_of table) args) ≡ Some ss
+    → MatchOption (refusal p o ss) (r ≡ Ok (result_sort (signature o).result ss)) (λ f. r ≡ Err f)
+    → IfOk r (λ s. sort_of table.pointer (Apply o (operands (terms_of table) args)) ≡ Some s)
+sort-from_sorts table p same o args ss r e told =
+    let h = subst (λ p. MatchOption (refusal p o ss) (r ≡ Ok (result_sort (signature o).result ss)) (λ f. r ≡ Err f)) same told
+    in
+    subst (λ q. IfOk r (λ s. q ≡ Some s)) (sym (sort_of-apply table.pointer o (operands (terms_of table) args) ss e))
+    (sort_told (refusal table.pointer o ss) (result_sort (signature o).result ss) r h)
 
-arity-at_most : (o : Op) → arity o ≤ 2
-arity-at_most (op.Input k s) = omega arith
-arity-at_most (op.Bits w n) = omega arith
-arity-at_most op.BvNot = omega arith
-arity-at_most op.BvAnd = omega arith
-arity-at_most op.BvOr = omega arith
-arity-at_most op.BvXor = omega arith
-arity-at_most op.BvAdd = omega arith
-arity-at_most op.BvSub = omega arith
-
-arity_fault : (o : Op) (ss : List Sort) (b : Bool) → b ≡ false
-    → cond b (fault_of o (misfit ss)) (Some fault.Arity) ≡ Some fault.Arity
-arity_fault o ss true h = cc
-arity_fault o ss false h = refl
+arity_fault : (p : ℕ) (o : Op) (ss : List Sort) (b : Bool) → b ≡ false
+    → cond b (fault_of p (signature o) ss (misfit p (signature o).index (signature o).slots ss)) (Some fault.Arity)
+    ≡ Some fault.Arity
+arity_fault p o ss true h = cc
+arity_fault p o ss false h = refl
 
 not_equal : (m n : ℕ) → n < m → eqb m n ≡ false
 not_equal m n h = grind (arith, nat_tests)
 
 -- no operation has more arguments
 pub refused_past_arity : (table : Table) → IsTable table → (o : Op) (args : List TermId)
-    → All (λ (a : TermId). a.0 < length table.nodes) args → 3 ≤ length args
+    → All (λ (a : TermId). a.0 < length table.nodes) args → 4 ≤ length args
     → make_refusal table o args ≡ Some fault.Arity
 refused_past_arity table is_table o args h long =
     let sorts = sorts_of-operands table is_table args h in
-    ap (option_and_then (refusal o)) sorts.1
-    ∙ arity_fault o sorts.0 _ (not_equal (length sorts.0) (arity o) (omega (arith, sorts.2, arity-at_most o)))
+    ap (option_and_then (refusal table.pointer o)) sorts.1
+    ∙ arity_fault table.pointer o sorts.0 _ (not_equal (length sorts.0) (arity o) (omega (arith, sorts.2, arity-at_most o)))
 
 -- ---- the arguments of an operation that stands over nodes
 
-sorts_of-length : (ts : List Term) (args : List TermId) (ss : List Sort) → sorts_of (operands ts args) ≡ Some ss
+sorts_of-length : (p : ℕ) (ts : List Term) (args : List TermId) (ss : List Sort)
+    → sorts_of p (operands ts args) ≡ Some ss
     → length ss ≡ length args
-sorts_of-length ts [] ss h = ap length (sym (same_Some [] ss (sym sorts_of-end ∙ h)))
-sorts_of-length ts (a ∷ args) ss h =
-    let parts = sorts_of-some (term_in ts a.0) (operands ts args) ss h in
-    ap length parts.2 ∙ ap suc (sorts_of-length ts args parts.1 parts.4)
+sorts_of-length p ts [] ss h = ap length (sym (same_Some [] ss (sym (sorts_of-end p) ∙ h)))
+sorts_of-length p ts (a ∷ args) ss h =
+    let parts = sorts_of-some p (term_in ts a.0) (operands ts args) ss h in
+    ap length parts.2 ∙ ap suc (sorts_of-length p ts args parts.1 parts.4)
 
 -- there are as many as the operation has
 pub arity-of_args : (table : Table) (o : Op) (args : List TermId) (s : Sort)
-    → sort_of (Apply o (operands (terms_of table) args)) ≡ Some s → length args ≡ arity o
+    → sort_of table.pointer (Apply o (operands (terms_of table) args)) ≡ Some s → length args ≡ arity o
 arity-of_args table o args s h =
-    let sorted = IsSorted-of o (operands (terms_of table) args) s h in
-    sym (sorts_of-length (terms_of table) args sorted.sorts sorted.of_args)
-    ∙ (IsFitting-of o sorted.sorts sorted.fits).arity
+    let sorted = IsSorted-of table.pointer o (operands (terms_of table) args) s h in
+    sym (sorts_of-length table.pointer (terms_of table) args sorted.sorts sorted.of_args)
+    ∙ (IsFitting-of table.pointer o sorted.sorts sorted.fits).arity
 
 -- so keeping a node loses nothing
 pub entry_of-node_of : (e : Entry) → length e.args ≡ arity e.op → entry_of (node_of e) ≡ e
@@ -176,30 +173,30 @@ term-added old e new (Ok id) h = ap (λ (table : Table). term_at table id) h.1 �
 
 -- a node that was made of an entry over nodes is seen as that entry again, and is padded
 pub seen-as : (table : Table) (e : Entry) (s : Sort) (n : Node)
-    → sort_of (Apply e.op (operands (terms_of table) e.args)) ≡ Some s → n ≡ node_of e → entry_of n ≡ e
+    → sort_of table.pointer (Apply e.op (operands (terms_of table) e.args)) ≡ Some s → n ≡ node_of e → entry_of n ≡ e
 seen-as table e s n sorted made = ap entry_of made ∙ entry_of-node_of e (arity-of_args table e.op e.args s sorted)
 
 pub padded-as : (table : Table) (e : Entry) (s : Sort) (n : Node)
-    → sort_of (Apply e.op (operands (terms_of table) e.args)) ≡ Some s → n ≡ node_of e → n ≡ node_of (entry_of n)
+    → sort_of table.pointer (Apply e.op (operands (terms_of table) e.args)) ≡ Some s → n ≡ node_of e → n ≡ node_of (entry_of n)
 padded-as table e s n sorted made = made ∙ ap node_of (sym (seen-as table e s n sorted made))
 
 -- an operation over nodes is well-sorted exactly where it is not refused
 pub sort_of-made : (table : Table) → IsTable table → (o : Op) (args : List TermId)
     → All (λ (a : TermId). a.0 < length table.nodes) args → make_refusal table o args ≡ None
-    → (s : Sort) × (sort_of (Apply o (operands (terms_of table) args)) ≡ Some s)
+    → (s : Sort) × (sort_of table.pointer (Apply o (operands (terms_of table) args)) ≡ Some s)
 sort_of-made table is_table o args below h =
     let sorts = sorts_of-operands table is_table args below in
-    let fits = sym (ap (option_and_then (refusal o)) sorts.1) ∙ h in (
-      result_sort o sorts.0,
-      sort_of-apply o (operands (terms_of table) args) sorts.0 sorts.1
-          ∙ ap (λ q. sort_unless q (result_sort o sorts.0)) fits,
+    let fits = sym (ap (option_and_then (refusal table.pointer o)) sorts.1) ∙ h in (
+      result_sort (signature o).result sorts.0,
+      sort_of-apply table.pointer o (operands (terms_of table) args) sorts.0 sorts.1
+          ∙ ap (λ q. sort_unless q (result_sort (signature o).result sorts.0)) fits,
     )
 
 pub sort_of-refused : (table : Table) → IsTable table → (o : Op) (args : List TermId)
     → All (λ (a : TermId). a.0 < length table.nodes) args → (f : MakeFault) → make_refusal table o args ≡ Some f
-    → sort_of (Apply o (operands (terms_of table) args)) ≡ None
+    → sort_of table.pointer (Apply o (operands (terms_of table) args)) ≡ None
 sort_of-refused table is_table o args below f h =
     let sorts = sorts_of-operands table is_table args below in
-    let fault = sym (ap (option_and_then (refusal o)) sorts.1) ∙ h in
-    sort_of-apply o (operands (terms_of table) args) sorts.0 sorts.1
-    ∙ ap (λ q. sort_unless q (result_sort o sorts.0)) fault
+    let fault = sym (ap (option_and_then (refusal table.pointer o)) sorts.1) ∙ h in
+    sort_of-apply table.pointer o (operands (terms_of table) args) sorts.0 sorts.1
+    ∙ ap (λ q. sort_unless q (result_sort (signature o).result sorts.0)) fault

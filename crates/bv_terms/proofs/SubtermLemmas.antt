@@ -12,15 +12,12 @@ use Rattle.std.proofs.lemmas.Option.{same_Some, slice_get-get_or, slice_get_with
 use Rattle.bv_terms.specs.declared.op.Op.{Op}
 use Rattle.bv_terms.specs.declared.op.Op.TheVariants as op
 use Rattle.bv_terms.specs.declared.op.TermId.{TermId}
-use Rattle.bv_terms.specs.declared.value.Sort.{Sort}
 use Rattle.bv_terms.specs.declared.value.Value.{Value}
 use Rattle.bv_terms.specs.Term.{Term, Operands, Apply, End, Then}
-use Rattle.bv_terms.specs.Sorts.{sort_of, sorts_of, InputsFit, AllInputsFit}
+use Rattle.bv_terms.specs.WellSorted.{InputsFit, AllInputsFit}
 use Rattle.bv_terms.specs.Table.{Entry, Table, term_in, operands, terms_of, term_at, IsTable}
 use Rattle.bv_terms.specs.Subterm.{IsSubterm, IsSubtermAmong, IsSubtermNode, AreSubterms, IsTopological}
-use Rattle.bv_terms.proofs.TermLemmas.{IsSorted-of, IsFitting-of, InputsFit-parts, sorts_of-some}
 use Rattle.bv_terms.proofs.TableLemmas.{term_at-node}
-use Rattle.bv_terms.proofs.MakeLemmas.{node-sorted}
 use Rattle.list_lemmas.proofs.Lookups.{Contains-cases, Contains-first, Contains-later}
 
 -- ---- elements of a list
@@ -43,27 +40,22 @@ mutual
   IsSubtermAmong-through r s (Then t ts) a b =
       ⊎_elim (λ here. inl (IsSubterm-through r s t a here)) (λ later. inr (IsSubtermAmong-through r s ts a later)) b
 
--- the inputs of a subterm fit where those of a well-sorted term do
+-- the inputs of a subterm fit where those of the term do
 mutual
-  unfolding IsSubterm sort_of InputsFit
+  unfolding IsSubterm InputsFit
 
-  pub InputsFit-subterm : (inputs : List Value) (t : Term) (s : Sort) → sort_of t ≡ Some s → InputsFit inputs t
-      → (u : Term) → IsSubterm u t → InputsFit inputs u
-  InputsFit-subterm inputs (Apply o ts) s h fit u below =
-      let sorted = IsSorted-of o ts s h in
-      let parts = InputsFit-parts inputs o ts sorted.sorts sorted.of_args (IsFitting-of o sorted.sorts sorted.fits) fit
-      in
+  pub InputsFit-subterm : (inputs : List Value) (t : Term) → InputsFit inputs t → (u : Term) → IsSubterm u t
+      → InputsFit inputs u
+  InputsFit-subterm inputs (Apply o ts) fit u below =
       ⊎_elim (λ same. subst (InputsFit inputs) (sym same) fit)
-      (λ among. AllInputsFit-subterm inputs ts sorted.sorts sorted.of_args parts.1 u among) below
+      (λ among. AllInputsFit-subterm inputs ts fit.1 u among) below
 
-  pub AllInputsFit-subterm : (inputs : List Value) (ts : Operands) (ss : List Sort) → sorts_of ts ≡ Some ss
-      → AllInputsFit inputs ts
+  pub AllInputsFit-subterm : (inputs : List Value) (ts : Operands) → AllInputsFit inputs ts
       → (u : Term) → IsSubtermAmong u ts → InputsFit inputs u
-  AllInputsFit-subterm inputs End ss h fit u among = absurd among
-  AllInputsFit-subterm inputs (Then t ts) ss h fit u among =
-      let parts = sorts_of-some t ts ss h in
-      ⊎_elim (λ here. InputsFit-subterm inputs t parts.0 parts.3 fit.0 u here)
-      (λ later. AllInputsFit-subterm inputs ts parts.1 parts.4 fit.1 u later) among
+  AllInputsFit-subterm inputs End fit u among = absurd among
+  AllInputsFit-subterm inputs (Then t ts) fit u among =
+      ⊎_elim (λ here. InputsFit-subterm inputs t fit.0 u here)
+      (λ later. AllInputsFit-subterm inputs ts fit.1 u later) among
 
 -- ---- subterms of a node's term
 
@@ -261,18 +253,16 @@ AreSubterms-topological table is results nodes are =
     IsTopological-of table is nodes are.rising (AreSubterms-closed table is results nodes are)
 
 -- inputs that fit the results' terms fit those of all nodes of their subterms
-pub AreSubterms-fit : (table : Table) → IsTable table → (results nodes : List TermId) → AreSubterms table results nodes
-    → All (λ (r : TermId). r.0 < length table.nodes) results → (inputs : List Value)
+pub AreSubterms-fit : (table : Table) (results nodes : List TermId) → AreSubterms table results nodes
+    → (inputs : List Value)
     → All (λ (r : TermId). InputsFit inputs (term_at table r)) results
     → All (λ (at : TermId). InputsFit inputs (term_at table at)) nodes
-AreSubterms-fit table is results nodes are within inputs fit = λ k d h.
+AreSubterms-fit table results nodes are inputs fit = λ k d h.
     let at = get_or nodes k d in
     let same : get_or nodes k at ≡ at =
     same_Some (get_or nodes k at) at (sym (slice_get-get_or nodes k at h) ∙ slice_get-get_or nodes k d h) in
     let below = (are.exact at).0 (k, h, same) in
     let r = below.1.0 in
-    let sorted = node-sorted table is r.0
-    (All-contains (λ (r : TermId). r.0 < length table.nodes) results r within below.1.1) in
-    InputsFit-subterm inputs (term_at table r) sorted.0 sorted.1
+    InputsFit-subterm inputs (term_at table r)
     (All-contains (λ (r : TermId). InputsFit inputs (term_at table r)) results r fit below.1.1)
     (term_at table at) below.1.2

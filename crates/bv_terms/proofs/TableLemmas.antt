@@ -7,8 +7,9 @@ use Rattle.std.proofs.lemmas.List.Elements.{recursion_from_All}
 use Rattle.bv_terms.specs.declared.op.TermId.{TermId}
 use Rattle.bv_terms.specs.declared.value.Sort.{Sort}
 use Rattle.bv_terms.specs.Term.{Term, Apply, Then}
-use Rattle.bv_terms.specs.Sorts.{sort_of}
+use Rattle.bv_terms.specs.WellSorted.{sort_of}
 use Rattle.bv_terms.specs.Table.{Entry, Table, term_in, operands, terms_from, terms_of, term_at, table_with, IsTable}
+use Rattle.bv_terms.specs.Table.{most_nodes}
 use Rattle.list_lemmas.proofs.Lookups.{Contains-from_slice_get as Contains-at, IsCut-at, push_cases}
 use Rattle.list_lemmas.proofs.Lookups.{slice_get-append_left as slice_get-append, slice_get-at_end}
 use Rattle.list_lemmas.proofs.Options.{some-is}
@@ -106,17 +107,18 @@ term_at-pushed table e at h =
 -- a table with a new node over its nodes, well-sorted, is a table
 pub IsTable-push : (table : Table) → IsTable table → (e : Entry) (s : Sort)
     → All (λ (a : TermId). a.0 < length table.nodes) e.args
-    → sort_of (Apply e.op (operands (terms_of table) e.args)) ≡ Some s → ¬ (Contains table.nodes e)
-    → IsTable (table_with table e)
-IsTable-push table is e s below sorted new = record {
+    → sort_of table.pointer (Apply e.op (operands (terms_of table) e.args)) ≡ Some s → ¬ (Contains table.nodes e)
+    → length table.nodes < most_nodes → IsTable (table_with table e)
+IsTable-push table is e s below sorted new room = record {
   wide = is.wide;
   narrow = is.narrow;
+  few = omega (arith, room, length-append table.nodes (e ∷ []));
   earlier = λ k f h. ⊎_elim (λ w. is.earlier k f w.1)
       (λ w. subst (λ (f : Entry). All (λ (a : TermId). a.0 < k) f.args) w.1
       (subst (λ n. All (λ (a : TermId). a.0 < n) e.args) (sym w.0) below)) (push_cases table.nodes e k f h);
   well_sorted = λ k t h. ⊎_elim (λ w. is.well_sorted k t w.1)
-      (λ w. subst (λ t. IsSome (sort_of t)) w.1
-      (some-is (sort_of (Apply e.op (operands (terms_of table) e.args))) s sorted))
+      (λ w. subst (λ t. IsSome (sort_of table.pointer t)) w.1
+      (some-is (sort_of table.pointer (Apply e.op (operands (terms_of table) e.args))) s sorted))
       (push_cases (terms_of table) (Apply e.op (operands (terms_of table) e.args)) k t
       (ap (λ (ts : List Term). slice_get ts k) (sym (terms_of-push table e)) ∙ h));
   distinct = λ j k f g h. ⊎_elim

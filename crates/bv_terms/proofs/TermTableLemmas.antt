@@ -17,8 +17,9 @@ use Rattle.bv_terms.specs.declared.op.TermId.{TermId}
 use Rattle.bv_terms.specs.declared.node.Node.{Node}
 use Rattle.bv_terms.specs.declared.value.Sort.{Sort}
 use Rattle.bv_terms.specs.Term.{Term, Apply}
-use Rattle.bv_terms.specs.Sorts.{arity, sort_of}
-use Rattle.bv_terms.specs.Table.{Entry, Table, term_in, operands, terms_of, table_with, IsTable}
+use Rattle.bv_terms.specs.Signature.{arity}
+use Rattle.bv_terms.specs.WellSorted.{sort_of}
+use Rattle.bv_terms.specs.Table.{Entry, Table, term_in, operands, terms_of, table_with, IsTable, most_nodes}
 use Rattle.bv_terms.specs.Node.{entry_of, node_of, table_of, IsTermTable}
 use Rattle.bv_terms.proofs.NodeLemmas.{node_eq, node_eq-sound, node_eq-refl}
 use Rattle.bv_terms.proofs.TableLemmas.{terms_of-push, IsTable-push}
@@ -29,20 +30,20 @@ use Rattle.list_lemmas.proofs.Options.{option_map-some}
 -- ---- sorts
 
 -- where the mapped element is known, the element is
-sort_at : (o : Option Term) (s : Sort) → Some (Some s) ≡ option_map sort_of o
-    → sort_of (unwrap_or o (term_in [] 0)) ≡ Some s
-sort_at None s h = cc
-sort_at (Some t) s h = sym (same_Some (Some s) (sort_of t) h)
+sort_at : (p : ℕ) (o : Option Term) (s : Sort) → Some (Some s) ≡ option_map (sort_of p) o
+    → sort_of p (unwrap_or o (term_in [] 0)) ≡ Some s
+sort_at p None s h = cc
+sort_at p (Some t) s h = sym (same_Some (Some s) (sort_of p t) h)
 
 -- a kept sort is that of the node's term
 pub kept-sort : (pointer : ℕ) (kept : List (Node × Sort)) → IsTermTable pointer kept → (k : ℕ) (e : Node × Sort)
     → slice_get kept k ≡ Some e
-    → sort_of (term_in (terms_of (table_of pointer kept)) k) ≡ Some e.1
+    → sort_of pointer (term_in (terms_of (table_of pointer kept)) k) ≡ Some e.1
 kept-sort pointer kept is k e h =
-    sort_at (slice_get (terms_of (table_of pointer kept)) k) e.1
+    sort_at pointer (slice_get (terms_of (table_of pointer kept)) k) e.1
     (sym (ap (option_map (λ (e : Node × Sort). Some e.1)) h)
     ∙ sym (slice_get-map (λ (e : Node × Sort). Some e.1) kept k)
-    ∙ ap (λ ss. slice_get ss k) is.sorts ∙ slice_get-map sort_of (terms_of (table_of pointer kept)) k)
+    ∙ ap (λ ss. slice_get ss k) is.sorts ∙ slice_get-map (sort_of pointer) (terms_of (table_of pointer kept)) k)
 
 -- ---- where a node stands
 
@@ -120,8 +121,9 @@ table_of-push pointer kept n s =
 pub record IsAddable (n : Node) (s : Sort) (table : Table) : Type 0 where
   pub padded : n ≡ node_of (entry_of n)
   pub earlier : All (λ (a : TermId). a.0 < length table.nodes) (entry_of n).args
-  pub sorted : sort_of (Apply n.op (operands (terms_of table) (entry_of n).args)) ≡ Some s
+  pub sorted : sort_of table.pointer (Apply n.op (operands (terms_of table) (entry_of n).args)) ≡ Some s
   pub new : ¬ (Contains table.nodes (entry_of n))
+  pub room : length table.nodes < most_nodes
 
 IsTermTable-push : (pointer : ℕ) (kept : List (Node × Sort)) → IsTermTable pointer kept → (n : Node) (s : Sort)
     → IsAddable n s (table_of pointer kept) → IsTermTable pointer (kept ++ (n, s) ∷ [])
@@ -130,16 +132,16 @@ IsTermTable-push pointer kept is n s may =
     let e = entry_of n in
     let pushed = table_of-push pointer kept n s in
     record {
-      table = subst IsTable (sym pushed) (IsTable-push table is.table e s may.earlier may.sorted may.new);
+      table = subst IsTable (sym pushed) (IsTable-push table is.table e s may.earlier may.sorted may.new may.room);
       padded = map-append (λ (e : Node × Sort). e.0) kept ((n, s) ∷ []) ∙ ap (λ ns. ns ++ n ∷ []) is.padded
           ∙ ap (λ m. map node_of table.nodes ++ m ∷ []) may.padded
           ∙ sym (map-append node_of table.nodes (e ∷ []))
           ∙ ap (λ (table : Table). map node_of table.nodes) (sym pushed);
       sorts = map-append (λ (e : Node × Sort). Some e.1) kept ((n, s) ∷ []) ∙ ap (λ ss. ss ++ Some s ∷ []) is.sorts
-          ∙ ap (λ o. map sort_of (terms_of table) ++ o ∷ []) (sym may.sorted)
-          ∙ sym (map-append sort_of (terms_of table) (Apply e.op (operands (terms_of table) e.args) ∷ []))
-          ∙ ap (map sort_of) (sym (terms_of-push table e))
-          ∙ ap (λ (table : Table). map sort_of (terms_of table)) (sym pushed);
+          ∙ ap (λ o. map (sort_of pointer) (terms_of table) ++ o ∷ []) (sym may.sorted)
+          ∙ sym (map-append (sort_of pointer) (terms_of table) (Apply e.op (operands (terms_of table) e.args) ∷ []))
+          ∙ ap (map (sort_of pointer)) (sym (terms_of-push table e))
+          ∙ ap (λ (table : Table). map (sort_of pointer) (terms_of table)) (sym pushed);
     }
 
 -- once it is added, the table has it at its end, and is kept

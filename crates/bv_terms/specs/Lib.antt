@@ -1,6 +1,12 @@
+pub mod Words
 pub mod Term
+pub mod Memory
 pub mod Sorts
+pub mod Signature
+pub mod WellSorted
 pub mod Table
 pub mod Node
 pub mod Subterm
 pub mod Eval
+pub mod Replaced
+pub mod Graft

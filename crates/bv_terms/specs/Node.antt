@@ -3,7 +3,8 @@ use Rattle.std.specs.Prelude.{◌≡◌, ℕ, ◌-◌, List, ◌++◌, length, m
 use Rattle.bv_terms.specs.declared.node.Node.{Node}
 use Rattle.bv_terms.specs.declared.node.TheConstants.{MOST_ARGS}
 use Rattle.bv_terms.specs.declared.value.Sort.{Sort}
-use Rattle.bv_terms.specs.Sorts.{arity, sort_of}
+use Rattle.bv_terms.specs.Signature.{arity}
+use Rattle.bv_terms.specs.WellSorted.{sort_of}
 use Rattle.bv_terms.specs.Table.{Entry, Table, terms_of, IsTable}
 
 -- an entry as it is kept, with node 0 in the places that are left
@@ -23,4 +24,4 @@ table_of pointer kept = record { pointer = pointer; nodes = map (λ e. entry_of 
 pub record IsTermTable (pointer : ℕ) (kept : List (Node × Sort)) : Type 0 where
   pub table : IsTable (table_of pointer kept)
   pub padded : map (λ e. e.0) kept ≡ map node_of (table_of pointer kept).nodes
-  pub sorts : map (λ e. Some e.1) kept ≡ map sort_of (terms_of (table_of pointer kept))
+  pub sorts : map (λ e. Some e.1) kept ≡ map (sort_of pointer) (terms_of (table_of pointer kept))

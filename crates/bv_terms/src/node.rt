@@ -2,13 +2,13 @@
 //! equal nodes are equal values.
 
 ghost use Rattle.std.specs.Prelude.{◌≡◌, ◌<◌, ◌≤◌, length, take, slice_get, Some};
-ghost use Rattle.bv_terms.specs.Sorts.{arity};
+ghost use Rattle.bv_terms.specs.Signature.{arity};
 ghost use Rattle.bv_terms.specs.Node.{node_of};
 
 use crate::op::{Op, TermId};
 
 /// The most arguments that an operation has.
-pub(crate) const MOST_ARGS: usize = 2;
+pub(crate) const MOST_ARGS: usize = 3;
 
 /// A node as it is looked up: an operation and its arguments. It owns no memory, so a look-up takes none.
 #[derive(Clone, Copy, Debug, PartialEq, Eq, Hash)]

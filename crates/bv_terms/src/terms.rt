@@ -1,14 +1,16 @@
 //! The table of terms. Each node stands over earlier ones, is well-sorted and stands there once; so nodes denote
 //! terms one to one.
 
-ghost use Rattle.std.specs.Prelude.{◌≡◌, ◌<◌, ◌≤◌, [], length, slice_get, All, Contains};
+ghost use Rattle.std.specs.Prelude.{◌≡◌, ◌<◌, ◌≤◌, [], length, map, slice_get, All, Contains};
 ghost use Rattle.std.specs.Prelude.{None, Some, IfOk, IfErr, OnOk, OnErr, MatchOption, MatchResult};
 ghost use Rattle.bv_terms.specs.declared.value.Sort.{Sort};
 ghost use Rattle.bv_terms.specs.Term.{Apply, value};
-ghost use Rattle.bv_terms.specs.Sorts.{sort_of, HasSort, InputsFit};
-ghost use Rattle.bv_terms.specs.Table.{Entry, operands, terms_of, term_at, make_refusal, table_with, IsTable, Makes};
+ghost use Rattle.bv_terms.specs.Sorts.{HasSort};
+ghost use Rattle.bv_terms.specs.WellSorted.{sort_of, InputsFit};
+ghost use Rattle.bv_terms.specs.Table.{Entry, operands, terms_of, term_at, make_refusal, table_with, Extends, IsTable, Makes};
 ghost use Rattle.bv_terms.specs.Subterm.{AreSubterms, IsTopological, keys_with};
 ghost use Rattle.bv_terms.specs.Eval.{IsValued};
+ghost use Rattle.bv_terms.specs.Memory.{thing, Plain};
 ghost use Rattle.bv_terms.specs.declared.op.TermId.{TermId};
 ghost use Rattle.bv_terms.specs.Node.{entry_of, node_of};
 
@@ -20,6 +22,9 @@ use indexmap::IndexMap;
 use std::alloc::{AllocError, Global};
 use std::collections::BTreeSet;
 use std::marker::Model;
+
+/// The most nodes of a table.
+const MOST_NODES: usize = 1 << 22;
 
 /// A table of nodes. Each node is an operation over earlier nodes, and no two nodes are equal.
 /// Contracts see it as the width of a pointer in bits and the list of the nodes.
@@ -72,7 +77,7 @@ impl Terms {
     /// The sort of a node's term.
     pub fn sort(&self, at: TermId) -> Sort
         requires { at.0 < length self.now.nodes }
-        ensures { sort_of (term_at self.now at) ≡ Some result }
+        ensures { sort_of self.now.pointer (term_at self.now at) ≡ Some result }
     {
         let (_, sort) = self.nodes.get_index(at.0).unwrap();
         *sort
@@ -89,7 +94,8 @@ impl Terms {
 
     /// The node of an operation over nodes: the one that is there, or else one added at the end.
     ///
-    /// The first fault counts: `Arity`, `Sorts`, `Index`. After a fault the table is as it was.
+    /// The first fault counts: `Arity`, `Sorts`, `Index`, `Width`. After a fault the table is as it was. A table that
+    /// would have more than 2^22 nodes is out of memory.
     pub fn make(&mut self, op: Op, args: &[TermId]) -> Result<TermId, MakeFault>
         requires { All (λ a. a.0 < length self.old.nodes) args.now }
         ensures refused { MatchOption (make_refusal self.old op args.now)
@@ -99,12 +105,13 @@ impl Terms {
 
         // What callers use of it.
         ensures table { IsTable self.new }
+        ensures extends { Extends self.old self.new }
         ensures longer { length self.old.nodes ≤ length self.new.nodes }
         ensures within { IfOk result (λ id. id.0 < length self.new.nodes) }
         ensures kept { (at : TermId) → at.0 < length self.old.nodes → term_at self.new at ≡ term_at self.old at }
         ensures term { IfOk result (λ id. term_at self.new id ≡ Apply op (operands (terms_of self.old) args.now)) }
         ensures sort { IfOk result
-            (λ id. sort_of (term_at self.new id) ≡ sort_of (Apply op (operands (terms_of self.old) args.now))) }
+            (λ id. sort_of self.old.pointer (term_at self.new id) ≡ sort_of self.old.pointer (Apply op (operands (terms_of self.old) args.now))) }
     {
         let sort = self.sort_over(op, args)?;
         let node = Node::new(op, args);
@@ -121,8 +128,10 @@ impl Terms {
         requires inputs { InputsFit env.now.values (term_at self.now at) }
         requires room { length self.now.nodes ≤ length room.old }
         ensures value { result ≡ value env.now.values (term_at self.now at) }
-        ensures sorted { (s : Sort) → sort_of (term_at self.now at) ≡ Some s → HasSort s result }
+        ensures sorted { (s : Sort) → sort_of self.now.pointer (term_at self.now at) ≡ Some s → HasSort s result }
+        ensures thing { thing self.now.pointer (map Plain env.now.values) (term_at self.now at) ≡ Plain result }
     {
+        let _ = &self.nodes;
         let inputs = env.values.as_slice();
         for place in 0..at.0 + 1 {
             let value = self.step(TermId(place), inputs, room);
@@ -182,7 +191,7 @@ impl Terms {
         ensures table { IsTable self.now }
     {
         let (node, _) = self.nodes.get_index(at.0).unwrap();
-        apply(&node.op, node.args(), inputs, room)
+        apply(&node.op, &node.args, inputs, room)
     }
 
     /// The sort of an operation over nodes, or why it cannot stand over them.
@@ -191,12 +200,18 @@ impl Terms {
         requires args { All (λ a. a.0 < length self.now.nodes) args.now }
         ensures fault { MatchResult result
             (λ _. make_refusal self.now op args.now ≡ None) (λ f. make_refusal self.now op args.now ≡ Some f) }
-        ensures sort { IfOk result (λ s. sort_of (Apply op (operands (terms_of self.now) args.now)) ≡ Some s) }
+        ensures sort { IfOk result (λ s. sort_of self.now.pointer (Apply op (operands (terms_of self.now) args.now)) ≡ Some s) }
     {
         match *args {
-            [] => op.sort_over(&[]),
-            [only] => op.sort_over(&[self.sort(only)]),
-            [first, second] => op.sort_over(&[self.sort(first), self.sort(second)]),
+            [] => op.sort_over(self.pointer, &[]),
+            [only] => op.sort_over(self.pointer, &[self.sort(only)]),
+            [first, second] => op.sort_over(self.pointer, &[self.sort(first), self.sort(second)]),
+            [first, second, third] => {
+                op.sort_over(
+                    self.pointer,
+                    &[self.sort(first), self.sort(second), self.sort(third)],
+                )
+            }
             _ => Err(MakeFault::Arity),
         }
     }
@@ -205,7 +220,7 @@ impl Terms {
     fn add(&mut self, node: Node, sort: Sort) -> Result<TermId, MakeFault>
         requires padded { node ≡ node_of (entry_of node) }
         requires earlier { All (λ a. a.0 < length self.old.nodes) (entry_of node).args }
-        requires sorted { sort_of (Apply node.op (operands (terms_of self.old) (entry_of node).args)) ≡ Some sort }
+        requires sorted { sort_of self.old.pointer (Apply node.op (operands (terms_of self.old) (entry_of node).args)) ≡ Some sort }
         requires new { ¬ Contains self.old.nodes (entry_of node) }
         ensures place { IfOk result (λ id. id.0 ≡ length self.old.nodes) }
         ensures added { OnOk result (self.new ≡ table_with self.old (entry_of node)) }
@@ -213,7 +228,10 @@ impl Terms {
         ensures memory { IfErr result (λ f. f ≡ MakeFault.NoMemory) }
         ensures table { IsTable self.new }
     {
-        let place = self.nodes.len();
+        let place = self.len();
+        if place >= MOST_NODES {
+            return Err(MakeFault::NoMemory);
+        }
         self.nodes.insert(node, sort)?;
         Ok(TermId(place))
     }

@@ -46,75 +46,76 @@ where_some false x y e = absurd (none-some y e)
 -- ---- the arguments of a definition, and its result
 
 -- what is said of them, by the scope that is read off the items
-body-by : (subject : Subject) (bytes : List ℕ) (items : List Item) (args : List ℕ) (trees : List Tree) (tree : Tree)
+body-by : (p : ℕ) (subject : Subject) (bytes : List ℕ) (items : List Item) (args : List ℕ) (trees : List Tree)
+    (tree : Tree)
     → AllZip (Denotes bytes items) args trees
-    → body_in subject trees tree
-    ≡ option_and_then (λ scope. option_and_then (λ t. Some (scope, t)) (term_of scope tree))
+    → body_in p subject trees tree
+    ≡ option_and_then (λ scope. option_and_then (λ t. Some (scope, t)) (term_of p scope tree))
     (option_and_then scope_of (each (binding_in subject (item_view bytes items)) args))
-body-by subject bytes items args trees tree d =
+body-by p subject bytes items args trees tree d =
     let said : Option (List Binding) → Option (List Binding × Term) = λ o.
-    option_and_then (λ scope. option_and_then (λ t. Some (scope, t)) (term_of scope tree))
+    option_and_then (λ scope. option_and_then (λ t. Some (scope, t)) (term_of p scope tree))
     (option_and_then scope_of o) in
     ap said (sym (bindings_agree subject bytes items args trees d))
 
 -- no arguments and no result, or one with too many different terms
-abbrev pub NoBody : Subject → List ℕ → List Item → List ℕ → ℕ → Type 0
-NoBody subject bytes items args item = (trees : List Tree) (tree : Tree) (body : List Binding × Term)
+abbrev pub NoBody : ℕ → Subject → List ℕ → List Item → List ℕ → ℕ → Type 0
+NoBody p subject bytes items args item = (trees : List Tree) (tree : Tree) (body : List Binding × Term)
     → AllZip (Denotes bytes items) args trees → Denotes bytes items item tree
-    → body_in subject trees tree ≡ Some body → HasFewTerms (body.1 ∷ []) → ⊥
+    → body_in p subject trees tree ≡ Some body → HasFewTerms (body.1 ∷ []) → ⊥
 
-pub body-no_scope : (subject : Subject) (bytes : List ℕ) (items : List Item) (args : List ℕ) (item : ℕ)
+pub body-no_scope : (p : ℕ) (subject : Subject) (bytes : List ℕ) (items : List Item) (args : List ℕ) (item : ℕ)
     → option_and_then scope_of (each (binding_in subject (item_view bytes items)) args) ≡ None
-    → NoBody subject bytes items args item
-body-no_scope subject bytes items args item none trees tree body d e is few =
+    → NoBody p subject bytes items args item
+body-no_scope p subject bytes items args item none trees tree body d e is few =
     let next : Option (List Binding) → Option (List Binding × Term) = λ o.
-    option_and_then (λ scope. option_and_then (λ t. Some (scope, t)) (term_of scope tree)) o in
-    none-some body (sym (body-by subject bytes items args trees tree d ∙ ap next none) ∙ is)
+    option_and_then (λ scope. option_and_then (λ t. Some (scope, t)) (term_of p scope tree)) o in
+    none-some body (sym (body-by p subject bytes items args trees tree d ∙ ap next none) ∙ is)
 
-body-with : (subject : Subject) (bytes : List ℕ) (items : List Item) (args : List ℕ) (scope : List Binding)
+body-with : (p : ℕ) (subject : Subject) (bytes : List ℕ) (items : List Item) (args : List ℕ) (scope : List Binding)
     → option_and_then scope_of (each (binding_in subject (item_view bytes items)) args) ≡ Some scope
     → (trees : List Tree) (tree : Tree) → AllZip (Denotes bytes items) args trees
-    → body_in subject trees tree ≡ option_and_then (λ t. Some (scope, t)) (term_of scope tree)
-body-with subject bytes items args scope some trees tree d =
+    → body_in p subject trees tree ≡ option_and_then (λ t. Some (scope, t)) (term_of p scope tree)
+body-with p subject bytes items args scope some trees tree d =
     let next : Option (List Binding) → Option (List Binding × Term) = λ o.
-    option_and_then (λ scope. option_and_then (λ t. Some (scope, t)) (term_of scope tree)) o in
-    body-by subject bytes items args trees tree d ∙ ap next some
+    option_and_then (λ scope. option_and_then (λ t. Some (scope, t)) (term_of p scope tree)) o in
+    body-by p subject bytes items args trees tree d ∙ ap next some
 
-pub body-no_term : (subject : Subject) (bytes : List ℕ) (items : List Item) (args : List ℕ) (item : ℕ)
+pub body-no_term : (p : ℕ) (subject : Subject) (bytes : List ℕ) (items : List Item) (args : List ℕ) (item : ℕ)
     (scope : List Binding)
     → option_and_then scope_of (each (binding_in subject (item_view bytes items)) args) ≡ Some scope
-    → ((t : Tree) → Denotes bytes items item t → term_of scope t ≡ None) → NoBody subject bytes items args item
-body-no_term subject bytes items args item scope some none trees tree body d e is few =
-    let said = body-with subject bytes items args scope some trees tree d in
+    → ((t : Tree) → Denotes bytes items item t → term_of p scope t ≡ None) → NoBody p subject bytes items args item
+body-no_term p subject bytes items args item scope some none trees tree body d e is few =
+    let said = body-with p subject bytes items args scope some trees tree d in
     let next : Option Term → Option (List Binding × Term) = option_and_then (λ t. Some (scope, t)) in
     none-some body (sym (said ∙ ap next (none tree e)) ∙ is)
 
-pub body-many : (subject : Subject) (bytes : List ℕ) (items : List Item) (args : List ℕ) (item : ℕ)
+pub body-many : (p : ℕ) (subject : Subject) (bytes : List ℕ) (items : List Item) (args : List ℕ) (item : ℕ)
     (scope : List Binding)
     (table : Table) (at : TermId)
     → option_and_then scope_of (each (binding_in subject (item_view bytes items)) args) ≡ Some scope
-    → ((t : Tree) → Denotes bytes items item t → IsTermOf table (term_of scope t) at)
-    → (HasFewTerms (term_at table at ∷ []) → ⊥) → NoBody subject bytes items args item
-body-many subject bytes items args item scope table at some terms many trees tree body d e is few =
-    let said = body-with subject bytes items args scope some trees tree d in
+    → ((t : Tree) → Denotes bytes items item t → IsTermOf table (term_of p scope t) at)
+    → (HasFewTerms (term_at table at ∷ []) → ⊥) → NoBody p subject bytes items args item
+body-many p subject bytes items args item scope table at some terms many trees tree body d e is few =
+    let said = body-with p subject bytes items args scope some trees tree d in
     let next : Option Term → Option (List Binding × Term) = option_and_then (λ t. Some (scope, t)) in
     let same = same_Some (scope, term_at table at) body (sym (said ∙ ap next (terms tree e).term) ∙ is) in
     many (subst (λ (b : List Binding × Term). HasFewTerms (b.1 ∷ [])) (sym same) few)
 
-pub body-some : (subject : Subject) (bytes : List ℕ) (items : List Item) (args : List ℕ) (item : ℕ)
+pub body-some : (p : ℕ) (subject : Subject) (bytes : List ℕ) (items : List Item) (args : List ℕ) (item : ℕ)
     (scope : List Binding)
     (table : Table) (at : TermId)
     → option_and_then scope_of (each (binding_in subject (item_view bytes items)) args) ≡ Some scope
-    → ((t : Tree) → Denotes bytes items item t → IsTermOf table (term_of scope t) at)
+    → ((t : Tree) → Denotes bytes items item t → IsTermOf table (term_of p scope t) at)
     → HasFewTerms (term_at table at ∷ []) → (trees : List Tree) (tree : Tree)
     → AllZip (Denotes bytes items) args trees → Denotes bytes items item tree
-    → IsBody table (body_in subject trees tree) scope at
-body-some subject bytes items args item scope table at some terms few trees tree d e =
+    → IsBody table (body_in p subject trees tree) scope at
+body-some p subject bytes items args item scope table at some terms few trees tree d e =
     let made = (terms tree e).term in
     let next : Option Term → Option (List Binding × Term) = option_and_then (λ t. Some (scope, t)) in
     record {
-      is = body-with subject bytes items args scope some trees tree d ∙ ap next made;
-      stays = term-stays scope tree (term_at table at) made;
+      is = body-with p subject bytes items args scope some trees tree d ∙ ap next made;
+      stays = term-stays p scope tree (term_at table at) made;
       few = few;
     }
 
@@ -151,18 +152,19 @@ with_body Goal f parts body = with_goal f (record {
 
 -- what follows from the parts
 abbrev from_parts : Subject → File → Parts Tree → Option File
-from_parts subject f parts = option_and_then (with_body subject f parts) (body_in subject parts.args parts.result)
+from_parts subject f parts = option_and_then (with_body subject f parts)
+    (body_in f.pointer subject parts.args parts.result)
 
 members-are : (subject : Subject) (f : File) (trees : List Tree)
     → with_members subject f trees ≡ option_and_then (from_parts subject f) (parts_in subject tree_view trees)
 unfolding with_body
 members-are Operation f trees =
-    bind-last (parts_in Operation tree_view trees) (λ (p : Parts Tree). body_in Operation p.args p.result)
+    bind-last (parts_in Operation tree_view trees) (λ (p : Parts Tree). body_in f.pointer Operation p.args p.result)
     (λ p body. let o : file.Operation =
     record { name = p.name; args = map (λ b. b.1) body.0; attrs = []; results = body.1 ∷ [] } in o)
     (with_operation f)
 members-are Goal f trees =
-    bind-last (parts_in Goal tree_view trees) (λ (p : Parts Tree). body_in Goal p.args p.result)
+    bind-last (parts_in Goal tree_view trees) (λ (p : Parts Tree). body_in f.pointer Goal p.args p.result)
     (λ p body. let g : file.Goal = record {
       name = p.name;
       kinds = map (λ b. kind.Reg) body.0;
@@ -200,7 +202,7 @@ pub members-twice : (subject : Subject) (bytes : List ℕ) (items : List Item) (
 members-twice subject bytes items numbers read f e twice trees g d is few =
     let has = parts-of subject bytes items numbers read trees d e in
     let old : is_new f has.said.name ≡ false = ap (is_new f) (sym has.stands.name) ∙ twice in
-    option_and_then_some (with_body subject f has.said) (body_in subject has.said.args has.said.result) g
+    option_and_then_some (with_body subject f has.said) (body_in f.pointer subject has.said.args has.said.result) g
     (sym (members-by subject bytes items read f trees has) ∙ is)
     (λ body _ made. none-some g (sym (not-new subject f has.said body old) ∙ made))
 
@@ -224,11 +226,12 @@ with_body-few Goal f g parts body e few =
 
 pub members-no_body : (subject : Subject) (bytes : List ℕ) (items : List Item) (numbers : List ℕ) (read : Parts ℕ)
     (f : File)
-    → parts_in subject (item_view bytes items) numbers ≡ Some read → NoBody subject bytes items read.args read.result
+    → parts_in subject (item_view bytes items) numbers ≡ Some read
+    → NoBody f.pointer subject bytes items read.args read.result
     → IsRefused (AllZip (Denotes bytes items) numbers) (with_members subject f)
 members-no_body subject bytes items numbers read f e none trees g d is few =
     let has = parts-of subject bytes items numbers read trees d e in
-    option_and_then_some (with_body subject f has.said) (body_in subject has.said.args has.said.result) g
+    option_and_then_some (with_body subject f has.said) (body_in f.pointer subject has.said.args has.said.result) g
     (sym (members-by subject bytes items read f trees has) ∙ is)
     (λ body there made. none has.said.args has.said.result body has.stands.args has.stands.result there
     (with_body-few subject f g has.said body made few).1)
@@ -283,14 +286,15 @@ pub record HasBody (subject : Subject) (bytes : List ℕ) (items : List Item) (n
   pub few : length scope ≤ 4
   pub within : at.0 < length table.nodes
   pub body : (trees : List Tree) (tree : Tree) → AllZip (Denotes bytes items) read.args trees
-      → Denotes bytes items read.result tree → IsBody table (body_in subject trees tree) scope at
+      → Denotes bytes items read.result tree
+      → IsBody table (body_in old.terms.pointer subject trees tree) scope at
 
 -- the result's inputs are the arguments, as some trees say
 body-of : (subject : Subject) (bytes : List ℕ) (items : List Item) (numbers : List ℕ) (read : Parts ℕ)
     (old : Tables) (table : Table) (scope : List Binding) (at : TermId) (trees : List Tree)
     → AllZip (Denotes bytes items) numbers trees → HasBody subject bytes items numbers read old table scope at
     → (has : HasParts subject bytes items read trees)
-    × IsBody table (body_in subject has.said.args has.said.result) scope at
+    × IsBody table (body_in old.terms.pointer subject has.said.args has.said.result) scope at
 body-of subject bytes items numbers read old table scope at trees d h =
     let has = parts-of subject bytes items numbers read trees d h.parts in
     (has, h.body has.said.args has.said.result has.stands.args has.stands.result)
@@ -427,7 +431,8 @@ members-few : (subject : Subject) (f g : File) (trees : List Tree) → with_memb
 members-few subject f g trees e few =
     option_and_then_some (from_parts subject f) (parts_in subject tree_view trees) g (sym (members-are subject f trees)
     ∙ e)
-    (λ parts _ made. option_and_then_some (with_body subject f parts) (body_in subject parts.args parts.result) g made
+    (λ parts _ made. option_and_then_some (with_body subject f parts)
+    (body_in f.pointer subject parts.args parts.result) g made
     (λ body _ last. (with_body-few subject f g parts body last few).0))
 
 item-few : (f g : File) (tree : Tree) → with_item f tree ≡ Some g → HasFew g → HasFew f

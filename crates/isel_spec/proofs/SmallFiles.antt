@@ -93,12 +93,12 @@ each_vector s (t ∷ ts) bs h =
     let P : List Binding → Type 0 = λ l. AreVectors (map (λ b. b.1) l) in
     subst P e (binding_in_vector s t a.0 a.1, each_vector s ts b.0 b.1)
 
-body_vectors : (s : Subject) (args : List Tree) (result : Tree) (body : List Binding × Term)
-    → body_in s args result ≡ Some body → AreVectors (map (λ b. b.1) body.0)
-body_vectors s args result body h =
+body_vectors : (p : ℕ) (s : Subject) (args : List Tree) (result : Tree) (body : List Binding × Term)
+    → body_in p s args result ≡ Some body → AreVectors (map (λ b. b.1) body.0)
+body_vectors p s args result body h =
     let scope = bind_some (option_and_then scope_of (each (binding_in s tree_view) args)) _ body h in
     let bs = bind_some (each (binding_in s tree_view) args) scope_of scope.0 scope.1 in
-    let made = bind_some (term_of scope.0 result) _ body scope.2 in
+    let made = bind_some (term_of p scope.0 result) _ body scope.2 in
     let same = (where_some (nat_le (length bs.0) 4 && differ (map (λ b. b.0) bs.0)) bs.0 scope.0 bs.2).1 in
     let P : List Binding → Type 0 = λ l. AreVectors (map (λ b. b.1) l) in
     let Q : List Binding × Term → Type 0 = λ b. AreVectors (map (λ b. b.1) b.0) in
@@ -115,10 +115,10 @@ IsPlainOp o = (o.attrs ≡ []) × (length o.results ≡ 1)
 abbrev IsPlainGoal : Goal → Type 0
 IsPlainGoal g = (length g.results ≡ 1) × AreVectors g.args
 
-operation_plain : (trees : List Tree) (o : Operation) → operation_in trees ≡ Some o → IsPlainOp o
-operation_plain trees o h =
+operation_plain : (p : ℕ) (trees : List Tree) (o : Operation) → operation_in p trees ≡ Some o → IsPlainOp o
+operation_plain p trees o h =
     let parts = bind_some (parts_in subject.Operation tree_view trees) _ o h in
-    let body = bind_some (body_in subject.Operation parts.0.args parts.0.result) _ o parts.2 in
+    let body = bind_some (body_in p subject.Operation parts.0.args parts.0.result) _ o parts.2 in
     let made : Operation = record {
       name = parts.0.name;
       args = map (λ b. b.1) body.0.0;
@@ -128,11 +128,11 @@ operation_plain trees o h =
     let e : made ≡ o = cc in
     subst IsPlainOp e (refl, refl)
 
-goal_plain : (trees : List Tree) (g : Goal) → goal_in trees ≡ Some g → IsPlainGoal g
-goal_plain trees g h =
+goal_plain : (p : ℕ) (trees : List Tree) (g : Goal) → goal_in p trees ≡ Some g → IsPlainGoal g
+goal_plain p trees g h =
     let parts = bind_some (parts_in subject.Goal tree_view trees) _ g h in
-    let body = bind_some (body_in subject.Goal parts.0.args parts.0.result) _ g parts.2 in
-    let vectors = body_vectors subject.Goal parts.0.args parts.0.result body.0 body.1 in
+    let body = bind_some (body_in p subject.Goal parts.0.args parts.0.result) _ g parts.2 in
+    let vectors = body_vectors p subject.Goal parts.0.args parts.0.result body.0 body.1 in
     subst IsPlainGoal (some_same body.2) (refl, vectors)
   where
     some_same : {A : Type 0} {x y : A} → Some x ≡ Some y → x ≡ y
@@ -146,18 +146,18 @@ record IsPlainFile (f : File) : Type 0 where
 members_plain : (s : Subject) (f g : File) (trees : List Tree) → with_members s f trees ≡ Some g → IsPlainFile f
     → IsPlainFile g
 members_plain subject.Operation f g trees h plain =
-    let o = bind_some (operation_in trees) (with_operation f) g h in
+    let o = bind_some (operation_in f.pointer trees) (with_operation f) g h in
     let made = where_some (is_new f o.0.name) (record f { ops = f.ops ++ o.0 ∷ [] }) g o.2 in
     subst IsPlainFile made.1 (record {
-      ops = all-push IsPlainOp f.ops o.0 plain.ops (operation_plain trees o.0 o.1);
+      ops = all-push IsPlainOp f.ops o.0 plain.ops (operation_plain f.pointer trees o.0 o.1);
       goals = plain.goals;
     })
 members_plain subject.Goal f g trees h plain =
-    let k = bind_some (goal_in trees) (with_goal f) g h in
+    let k = bind_some (goal_in f.pointer trees) (with_goal f) g h in
     let made = where_some (is_new f k.0.name) (record f { goals = f.goals ++ k.0 ∷ [] }) g k.2 in
     subst IsPlainFile made.1 (record {
       ops = plain.ops;
-      goals = all-push IsPlainGoal f.goals k.0 plain.goals (goal_plain trees k.0 k.1);
+      goals = all-push IsPlainGoal f.goals k.0 plain.goals (goal_plain f.pointer trees k.0 k.1);
     })
 
 items_plain : (f g : File) (trees : List Tree) → with_items f trees ≡ Some g → IsPlainFile f → IsPlainFile g

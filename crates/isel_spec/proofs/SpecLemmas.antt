@@ -4,23 +4,26 @@ use Rattle.std.proofs.Common.{length, map, get_or, Option, Some, None, All, refl
 use Rattle.std.specs.Prelude.{nat_lt, nat_le, ◌==◌, option_map}
 use Rattle.std.specs.List.{list_all}
 use Rattle.std.specs.Option.{option_map_or}
-use Rattle.std.proofs.lemmas.Bool.{and_parts, ltb-true, leb-true}
+use Rattle.std.proofs.lemmas.Bool.{and_parts, eqb-true, ltb-true, leb-true}
 use Rattle.std.proofs.lemmas.List.{append-nil}
 use Rattle.std.proofs.lemmas.Option.{slice_get-map, slice_get-get_or, same_Some}
+use Rattle.bv_terms.specs.declared.op.Op.{Op}
 use Rattle.bv_terms.specs.declared.op.Op.TheVariants as op
 use Rattle.bv_terms.specs.declared.op.TermId.{TermId}
 use Rattle.bv_terms.specs.declared.value.Sort.{Sort}
 use Rattle.bv_terms.specs.declared.value.Sort.TheVariants as sort
 use Rattle.bv_terms.specs.declared.value.Value.{Value}
 use Rattle.bv_terms.specs.Term.{Term, Operands, Apply, End, Then, value}
-use Rattle.bv_terms.specs.Sorts.{same_sort, HaveSorts, InputsFit, AllInputsFit}
+use Rattle.bv_terms.specs.Sorts.{same_sort, HaveSorts}
+use Rattle.bv_terms.specs.WellSorted.{sort_of, InputFits, InputsFit, AllInputsFit}
 use Rattle.bv_terms.specs.Table.{Table, terms_of, term_in, term_at}
-use Rattle.bv_terms.proofs.TermLemmas.{HaveSorts-at, same_sort-true}
+use Rattle.bv_terms.proofs.SignatureLemmas.{same_sort-true}
+use Rattle.bv_terms.proofs.TermLemmas.{HaveSorts-at}
 use Rattle.isel_spec.specs.declared.definitions.OpDef.{OpDef}
 use Rattle.isel_spec.specs.declared.definitions.GoalDef.{GoalDef}
 use Rattle.isel_spec.specs.declared.spec.Spec.{Spec}
-use Rattle.isel_spec.specs.File.{Goal, operation, goal, scope, stays_in, all_stay_in, are_sound, is_between}
-use Rattle.isel_spec.specs.File.{is_sound_op, is_sound_goal}
+use Rattle.isel_spec.specs.File.{Goal, operation, goal, scope, is_in_scope, stays_in, all_stay_in, are_sound}
+use Rattle.isel_spec.specs.File.{is_between, is_sound_op, is_sound_goal}
 use Rattle.isel_spec.specs.Spec.{file}
 use Rattle.list_lemmas.proofs.Lookups.{list_all_at}
 
@@ -71,6 +74,7 @@ sound_goal table e h =
     }
 
 record IsSoundSpec (s : Spec) : Type 0 where
+  pointer : s.pointer ≡ s.terms.pointer
   few : length s.ops ≤ 64
   ops : list_all (is_sound_op s.terms) s.ops ≡ true
   goals : list_all (is_sound_goal s.terms) s.goals ≡ true
@@ -86,7 +90,20 @@ sound_spec s =
     let q = and_parts (w && o && g) os p.0 in
     let r = and_parts (w && o) g q.0 in
     let l = and_parts w o r.0 in
-    record { few = leb-true (length s.ops) 64 l.1; ops = q.1; goals = p.1 }
+    record {
+      pointer = eqb-true s.pointer s.terms.pointer l.0;
+      few = leb-true (length s.ops) 64 l.1;
+      ops = q.1;
+      goals = p.1;
+    }
+
+-- the file's pointers are those of its terms
+pub pointer_is : (s : Spec) → s.pointer ≡ s.terms.pointer
+pointer_is s = let k = sound_spec s in k.pointer
+
+-- so a term has the same sort in both
+pub sort_in_file : (s : Spec) (t : Term) → sort_of s.pointer t ≡ sort_of s.terms.pointer t
+sort_in_file s t = ap (λ p. sort_of p t) (pointer_is s)
 
 pub few_ops : (s : Spec) → length s.ops ≤ 64
 few_ops s = let k = sound_spec s in k.few
@@ -156,14 +173,19 @@ stays_at : (s : Sort) (o : Option Sort) → option_map_or (same_sort s) o false 
 stays_at s None h = cc
 stays_at s (Some t) h = ap Some (sym (same_sort-true s t h))
 
+InputFits-from_sorts : (ss : List Sort) (vs : List Value) → HaveSorts ss vs → (o : Op) → is_in_scope ss o ≡ true
+    → InputFits vs o
+InputFits-from_sorts ss vs h (op.Input k s) e = HaveSorts-at ss vs h k s (stays_at s (slice_get ss k) e)
+InputFits-from_sorts ss vs h o e = tt
+
 mutual
   unfolding stays_in InputsFit
 
   pub InputsFit-from_sorts : (ss : List Sort) (vs : List Value) → HaveSorts ss vs → (t : Term) → stays_in ss t ≡ true
       → InputsFit vs t
-  InputsFit-from_sorts ss vs h (Apply (op.Input k s) ts) e =
-      HaveSorts-at ss vs h k s (stays_at s (slice_get ss k) e)
-  InputsFit-from_sorts ss vs h (Apply o ts) e = AllInputsFit-from_sorts ss vs h ts e
+  InputsFit-from_sorts ss vs h (Apply o ts) e =
+      let parts = and_parts (is_in_scope ss o) (all_stay_in ss ts) e in
+      (InputFits-from_sorts ss vs h o parts.0, AllInputsFit-from_sorts ss vs h ts parts.1)
 
   pub AllInputsFit-from_sorts : (ss : List Sort) (vs : List Value) → HaveSorts ss vs → (ts : Operands)
       → all_stay_in ss ts ≡ true → AllInputsFit vs ts

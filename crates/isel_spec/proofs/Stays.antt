@@ -102,7 +102,7 @@ input-stays scope name o e =
     subst (Stays scope) (sym place.2) (here place.0 place.1 (0 + place.0) (omega arith) place.3)
   where
     here : (k : ℕ) (s : Sort) (n : ℕ) → n ≡ k → slice_get (sorts scope) k ≡ Some s → Stays scope (op.Input n s)
-    here k s n same there ts h = rw (same, there) (same_sort-itself s)
+    here k s n same there ts h = rw (same, there, same_sort-itself s, h) refl
 
 leaf-stays : (scope : List Binding) (word : List ℕ) (o : Op) → leaf scope word ≡ Some o → Stays scope o
 leaf-stays scope word o e = by_literal (literal word) refl e
@@ -111,8 +111,8 @@ leaf-stays scope word o e = by_literal (literal word) refl e
     by_literal None l e = input-stays scope word o e
     by_literal (Some p) l e = literal-stays scope word o (l ∙ e)
 
-well_sorted-is : (t x : Term) → well_sorted t ≡ Some x → t ≡ x
-well_sorted-is t x e = where_some _ t x e
+well_sorted-is : (p : ℕ) (t x : Term) → well_sorted p t ≡ Some x → t ≡ x
+well_sorted-is p t x e = where_some _ t x e
 
 no_operands : (scope : List Binding) → all_stay_in (sorts scope) term.End ≡ true
 unfolding all_stay_in
@@ -124,26 +124,26 @@ unfolding all_stay_in
 both_stay scope t ts e f = rw (e, f) refl
 
 mutual
-  pub term-stays : (scope : List Binding) (t : Tree) (x : Term) → term_of scope t ≡ Some x
+  pub term-stays : (p : ℕ) (scope : List Binding) (t : Tree) (x : Term) → term_of p scope t ≡ Some x
       → stays_in (sorts scope) x ≡ true
-  term-stays scope (Word first word) x e =
+  term-stays p scope (Word first word) x e =
       option_and_then_some _ (leaf scope word) x e
-      (λ o is made. subst (λ y. stays_in (sorts scope) y ≡ true) (well_sorted-is (Apply o term.End) x made)
+      (λ o is made. subst (λ y. stays_in (sorts scope) y ≡ true) (well_sorted-is p (Apply o term.End) x made)
       (leaf-stays scope word o is term.End (no_operands scope)))
-  term-stays scope (Branch from to End) x e = absurd (none-some x e)
-  term-stays scope (Branch from to (Then (Branch f u ms) arguments)) x e = absurd (none-some x e)
-  term-stays scope (Branch from to (Then (Word f word) arguments)) x e =
+  term-stays p scope (Branch from to End) x e = absurd (none-some x e)
+  term-stays p scope (Branch from to (Then (Branch f u ms) arguments)) x e = absurd (none-some x e)
+  term-stays p scope (Branch from to (Then (Word f word) arguments)) x e =
       option_and_then_some _ (operator word) x e
-      (λ o is rest. option_and_then_some _ (operands_of scope arguments) x rest
-      (λ ts are made. subst (λ y. stays_in (sorts scope) y ≡ true) (well_sorted-is (Apply o ts) x made)
-      (operator-stays scope word o is ts (operands-stay scope arguments ts are))))
+      (λ o is rest. option_and_then_some _ (operands_of p scope arguments) x rest
+      (λ ts are made. subst (λ y. stays_in (sorts scope) y ≡ true) (well_sorted-is p (Apply o ts) x made)
+      (operator-stays scope word o is ts (operands-stay p scope arguments ts are))))
 
-  operands-stay : (scope : List Binding) (ts : Trees) (xs : Operands) → operands_of scope ts ≡ Some xs
+  operands-stay : (p : ℕ) (scope : List Binding) (ts : Trees) (xs : Operands) → operands_of p scope ts ≡ Some xs
       → all_stay_in (sorts scope) xs ≡ true
-  operands-stay scope End xs e =
+  operands-stay p scope End xs e =
       subst (λ y. all_stay_in (sorts scope) y ≡ true) (same_Some term.End xs e) (no_operands scope)
-  operands-stay scope (Then t ts) xs e =
-      option_and_then_some _ (term_of scope t) xs e
-      (λ first is rest. option_and_then_some _ (operands_of scope ts) xs rest
+  operands-stay p scope (Then t ts) xs e =
+      option_and_then_some _ (term_of p scope t) xs e
+      (λ first is rest. option_and_then_some _ (operands_of p scope ts) xs rest
       (λ others are made. subst (λ y. all_stay_in (sorts scope) y ≡ true) (same_Some (term.Then first others) xs made)
-      (both_stay scope first others (term-stays scope t first is) (operands-stay scope ts others are))))
+      (both_stay scope first others (term-stays p scope t first is) (operands-stay p scope ts others are))))

@@ -13,7 +13,8 @@ use Rattle.bv_terms.specs.declared.op.MakeFault.{MakeFault}
 use Rattle.bv_terms.specs.declared.op.MakeFault.TheVariants as make
 use Rattle.bv_terms.specs.declared.value.Sort.{Sort}
 use Rattle.bv_terms.specs.Term.{Term, Operands, Apply}
-use Rattle.bv_terms.specs.Sorts.{sort_of, sorts_of, op_sort, refusal}
+use Rattle.bv_terms.specs.Signature.{refusal}
+use Rattle.bv_terms.specs.WellSorted.{sort_of, sorts_of, op_sort}
 use Rattle.bv_terms.specs.Table.{Table, IsTable, term_at, terms_of, operands, make_refusal}
 use Rattle.bv_terms.proofs.TableLemmas.{length-terms_of}
 use Rattle.isel_spec.specs.Fault.{first_fault}
@@ -31,31 +32,31 @@ named_here m (suc n) (c ∷ scope) b word e t = named_here m n scope b word e t
 
 -- ---- a term that is made
 
-pub well_sorted-some : (t : Term) → IsSome (sort_of t) → well_sorted t ≡ Some t
-well_sorted-some t e = rw e refl
+pub well_sorted-some : (p : ℕ) (t : Term) → IsSome (sort_of p t) → well_sorted p t ≡ Some t
+well_sorted-some p t e = rw e refl
 
-pub well_sorted-none : (t : Term) → sort_of t ≡ None → well_sorted t ≡ None
-well_sorted-none t e = rw e refl
+pub well_sorted-none : (p : ℕ) (t : Term) → sort_of p t ≡ None → well_sorted p t ≡ None
+well_sorted-none p t e = rw e refl
 
-pub term_at-sorted : (table : Table) → IsTable table → (at : TermId) → at.0 < length table.nodes
-    → IsSome (sort_of (term_at table at))
-term_at-sorted table is at h =
+pub term_at-sorted : (p : ℕ) (table : Table) → table.pointer ≡ p → IsTable table → (at : TermId)
+    → at.0 < length table.nodes → IsSome (sort_of p (term_at table at))
+term_at-sorted p table same is at h =
     let some = Apply (op.Bits 0 0) Rattle.bv_terms.specs.Term.End in
     let inside : at.0 < length (terms_of table) = subst (λ n. at.0 < n) (sym (length-terms_of table)) h in
     let here = slice_get-get_or (terms_of table) at.0 some inside in
-    rw here (is.well_sorted at.0 _ here)
+    subst (λ p. IsSome (sort_of p (term_at table at))) same (rw here (is.well_sorted at.0 _ here))
 
-refused-sort : (o : Op) (sorts : Option (List Sort)) (f : MakeFault) → option_and_then (refusal o) sorts ≡ Some f
-    → option_and_then (op_sort o) sorts ≡ None
-refused-sort o None f e = refl
-refused-sort o (Some ss) f e = rw e refl
+refused-sort : (p : ℕ) (o : Op) (sorts : Option (List Sort)) (f : MakeFault)
+    → option_and_then (refusal p o) sorts ≡ Some f → option_and_then (op_sort p o) sorts ≡ None
+refused-sort p o None f e = refl
+refused-sort p o (Some ss) f e = rw e refl
 
 pub refused-none : (table : Table) (o : Op) (args : List TermId) (f : MakeFault) → make_refusal table o args ≡ Some f →
-    well_sorted (Apply o (operands (terms_of table) args)) ≡ None
+    well_sorted table.pointer (Apply o (operands (terms_of table) args)) ≡ None
 unfolding sort_of
 refused-none table o args f e =
-    well_sorted-none (Apply o (operands (terms_of table) args))
-    (refused-sort o (sorts_of (operands (terms_of table) args)) f e)
+    well_sorted-none table.pointer (Apply o (operands (terms_of table) args))
+    (refused-sort table.pointer o (sorts_of table.pointer (operands (terms_of table) args)) f e)
 
 -- every fault but out of memory refuses
 pub refused-tells : {X : Type 0} (Read : X → Type 0) (Refused : Type 0) (f : MakeFault)
@@ -63,6 +64,7 @@ pub refused-tells : {X : Type 0} (Read : X → Type 0) (Refused : Type 0) (f : M
 refused-tells Read Refused make.Arity h = h (λ e. cc)
 refused-tells Read Refused (make.Sorts place) h = h (λ e. cc)
 refused-tells Read Refused make.Index h = h (λ e. cc)
+refused-tells Read Refused make.Width h = h (λ e. cc)
 refused-tells Read Refused make.NoMemory h = tt
 
 pub refused-other : (o : Option MakeFault) (fault : MakeFault) → (fault ≡ make.NoMemory → ⊥) →

@@ -30,24 +30,27 @@ pub tells-err : {X Y : Type 0} (fault : FirstFault) (r : Result Y FirstFault) (P
 tells-err Outside r P P' Q Q' e h g = rw e (g h)
 tells-err NoMemory r P P' Q Q' e h g = rw e tt
 
-pub term-refused : (scope : List Binding) (bytes : List ℕ) (items : List Item) (item : ℕ) (o : Op) (arguments : List ℕ)
+pub term-refused : (p : ℕ) (scope : List Binding) (bytes : List ℕ) (items : List Item) (item : ℕ) (o : Op)
+    (arguments : List ℕ)
     (i : ℕ) (table : Table) (args : List TermId) →
     application_in (item_view bytes items) item ≡ Some (o, arguments) → i < length arguments
-    → HasOperands scope bytes items arguments i table args →
-    ((t : Tree) → Denotes bytes items (get_or arguments i 0) t → term_of scope t ≡ None) → (t : Tree)
-    → Denotes bytes items item t → term_of scope t ≡ None
-term-refused scope bytes items item o arguments i table args is h has refused t d =
-    let applied = application-some scope bytes items item t o arguments d is in
-    applied.term ∙ ap (option_and_then (λ ts. well_sorted (Apply o ts)))
-    (operands_stop scope bytes items arguments i table args h has refused applied.trees applied.denoted)
+    → HasOperands p scope bytes items arguments i table args →
+    ((t : Tree) → Denotes bytes items (get_or arguments i 0) t → term_of table.pointer scope t ≡ None) → (t : Tree)
+    → Denotes bytes items item t → term_of p scope t ≡ None
+term-refused p scope bytes items item o arguments i table args is h has refused t d =
+    let applied = application-some p scope bytes items item t o arguments d is in
+    applied.term ∙ ap (option_and_then (λ ts. well_sorted p (Apply o ts)))
+    (operands_stop p scope bytes items arguments i table args h has refused applied.trees applied.denoted)
 
-pub term-whole : (scope : List Binding) (bytes : List ℕ) (items : List Item) (item : ℕ) (o : Op) (arguments : List ℕ)
+pub term-whole : (p : ℕ) (scope : List Binding) (bytes : List ℕ) (items : List Item) (item : ℕ) (o : Op)
+    (arguments : List ℕ)
     (i : ℕ) (table : Table) (args read : List TermId) →
     application_in (item_view bytes items) item ≡ Some (o, arguments) → length arguments ≤ i
-    → HasOperands scope bytes items arguments i table args → read ≡ args →
-    (t : Tree) → Denotes bytes items item t → term_of scope t ≡ well_sorted (Apply o (operands (terms_of table) read))
-term-whole scope bytes items item o arguments i table args read is h has same t d =
-    let applied = application-some scope bytes items item t o arguments d is in
-    applied.term ∙ ap (option_and_then (λ ts. well_sorted (Apply o ts)))
-    (operands_all scope bytes items arguments i table args h has applied.trees applied.denoted)
-    ∙ ap (λ xs. well_sorted (Apply o (operands (terms_of table) xs))) (sym same)
+    → HasOperands p scope bytes items arguments i table args → read ≡ args →
+    (t : Tree) → Denotes bytes items item t → term_of p scope t
+    ≡ well_sorted table.pointer (Apply o (operands (terms_of table) read))
+term-whole p scope bytes items item o arguments i table args read is h has same t d =
+    let applied = application-some p scope bytes items item t o arguments d is in
+    applied.term ∙ ap (option_and_then (λ ts. well_sorted p (Apply o ts)))
+    (operands_all p scope bytes items arguments i table args h has applied.trees applied.denoted)
+    ∙ (λ i. well_sorted (sym has.pointer i) (Apply o (operands (terms_of table) (sym same i))))

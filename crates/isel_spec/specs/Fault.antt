@@ -10,6 +10,7 @@ abbrev pub first_fault : MakeFault → FirstFault
 first_fault make.Arity = Outside
 first_fault (make.Sorts place) = Outside
 first_fault make.Index = Outside
+first_fault make.Width = Outside
 first_fault make.NoMemory = NoMemory
 
 abbrev pub text_fault : SexpFault → FirstFault

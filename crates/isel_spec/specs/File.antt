@@ -2,6 +2,7 @@
 use Rattle.std.specs.Prelude.{ℕ, List, ◌++◌, length, map, slice_get, Bool, true, false, ◌&&◌, ◌==◌, nat_lt, nat_le}
 use Rattle.std.specs.List.{list_all}
 use Rattle.std.specs.Option.{option_map_or}
+use Rattle.bv_terms.specs.declared.op.Op.{Op}
 use Rattle.bv_terms.specs.declared.op.Op.TheVariants as op
 use Rattle.bv_terms.specs.declared.op.TermId.{TermId}
 use Rattle.bv_terms.specs.declared.value.Sort.{Sort}
@@ -57,11 +58,15 @@ goal table e = record {
 abbrev pub scope : OpDef → List Sort
 scope def = def.args ++ map (λ w. sort.Bits w) def.attrs
 
--- each input that stands in the term is one of the scope's, of its sort
+-- an input that an operation reads is one of the scope's, of its sort
+abbrev pub is_in_scope : List Sort → Op → Bool
+is_in_scope sorts (op.Input k s) = option_map_or (same_sort s) (slice_get sorts k) false
+is_in_scope sorts _ = true
+
+-- so is each input that stands in the term
 unfoldable mutual
   pub stays_in : List Sort → Term → Bool
-  stays_in sorts (Apply (op.Input k s) ts) = option_map_or (same_sort s) (slice_get sorts k) false
-  stays_in sorts (Apply o ts) = all_stay_in sorts ts
+  stays_in sorts (Apply o ts) = is_in_scope sorts o && all_stay_in sorts ts
 
   pub all_stay_in : List Sort → Operands → Bool
   all_stay_in sorts End = true

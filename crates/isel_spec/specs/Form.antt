@@ -16,7 +16,8 @@ use Rattle.bv_terms.specs.declared.value.Sort.{Sort}
 use Rattle.bv_terms.specs.declared.value.Sort.TheVariants as sort
 use Rattle.bv_terms.specs.Term as term
 use Rattle.bv_terms.specs.Term.{Term, Operands, Apply}
-use Rattle.bv_terms.specs.Sorts.{sort_of, width_of}
+use Rattle.bv_terms.specs.Sorts.{width_of}
+use Rattle.bv_terms.specs.WellSorted.{sort_of}
 use Rattle.bv_terms.specs.Subterm.{IsSubterm}
 use Rattle.sexp_read.specs.Tree.{Tree, Trees, Word, Branch, End, Then, flatten, depth, depth_limit}
 use Rattle.sexp_read.specs.Token.{is_text_byte, tokens}
@@ -61,24 +62,25 @@ option_or None other = other
 abbrev pub leaf : List Binding → List ℕ → Option Op
 leaf scope word = option_or (literal word) (input_named 0 scope word)
 
-abbrev pub well_sorted : Term → Option Term
-well_sorted t = where_true (is_some (sort_of t)) t
+-- the term, where it is well-sorted with pointers of p bits
+abbrev pub well_sorted : ℕ → Term → Option Term
+well_sorted p t = where_true (is_some (sort_of p t)) t
 
--- the term that a tree is, with these names in scope
+-- the term that a tree is, with these names in scope, where a pointer has p bits
 abbrev mutual
-  pub term_of : List Binding → Tree → Option Term
-  term_of scope (Word first bytes) = option_and_then (λ o. well_sorted (Apply o term.End)) (leaf scope bytes)
-  term_of scope (Branch from to End) = None
-  term_of scope (Branch from to (Then (Branch _ _ _) arguments)) = None
-  term_of scope (Branch from to (Then (Word _ word) arguments)) =
-      option_and_then (λ o. option_and_then (λ ts. well_sorted (Apply o ts)) (operands_of scope arguments))
+  pub term_of : ℕ → List Binding → Tree → Option Term
+  term_of p scope (Word first bytes) = option_and_then (λ o. well_sorted p (Apply o term.End)) (leaf scope bytes)
+  term_of p scope (Branch from to End) = None
+  term_of p scope (Branch from to (Then (Branch _ _ _) arguments)) = None
+  term_of p scope (Branch from to (Then (Word _ word) arguments)) =
+      option_and_then (λ o. option_and_then (λ ts. well_sorted p (Apply o ts)) (operands_of p scope arguments))
       (operator word)
 
-  pub operands_of : List Binding → Trees → Option Operands
-  operands_of scope End = Some term.End
-  operands_of scope (Then t ts) =
-      option_and_then (λ first. option_and_then (λ rest. Some (term.Then first rest)) (operands_of scope ts))
-      (term_of scope t)
+  pub operands_of : ℕ → List Binding → Trees → Option Operands
+  operands_of p scope End = Some term.End
+  operands_of p scope (Then t ts) =
+      option_and_then (λ first. option_and_then (λ rest. Some (term.Then first rest)) (operands_of p scope ts))
+      (term_of p scope t)
 
 -- How a tree is looked at: the bytes of a word, and the members of a list. What stands for trees is
 -- looked at in the same way.
@@ -211,25 +213,25 @@ parts_in subject view nodes = do
   result ← one_of results
   where_true (is_name name) (record { name = name; args = args; cost = cost; result = result })
 
--- the arguments of a definition, and its result
-abbrev pub body_in : Subject → List Tree → Tree → Option (List Binding × Term)
-body_in subject args result = do
+-- the arguments of a definition, and its result, where a pointer has p bits
+abbrev pub body_in : ℕ → Subject → List Tree → Tree → Option (List Binding × Term)
+body_in p subject args result = do
   scope ← option_and_then scope_of (each (binding_in subject tree_view) args)
-  term ← term_of scope result
+  term ← term_of p scope result
   Some (scope, term)
 
 -- `NAME (arg*) () (TERM)`
-abbrev pub operation_in : List Tree → Option file.Operation
-operation_in trees = do
+abbrev pub operation_in : ℕ → List Tree → Option file.Operation
+operation_in p trees = do
   parts ← parts_in Operation tree_view trees
-  body ← body_in Operation parts.args parts.result
+  body ← body_in p Operation parts.args parts.result
   Some (record { name = parts.name; args = map (λ b. b.1) body.0; attrs = []; results = body.1 ∷ [] })
 
 -- `NAME (garg*) COST (TERM)`
-abbrev pub goal_in : List Tree → Option file.Goal
-goal_in trees = do
+abbrev pub goal_in : ℕ → List Tree → Option file.Goal
+goal_in p trees = do
   parts ← parts_in Goal tree_view trees
-  body ← body_in Goal parts.args parts.result
+  body ← body_in p Goal parts.args parts.result
   Some (record {
     name = parts.name;
     kinds = map (λ b. kind.Reg) body.0;
@@ -266,8 +268,8 @@ with_goal f g = where_true (is_new f g.name) (record f { goals = f.goals ++ g �
 
 -- the file with what the members after a head define
 abbrev pub with_members : Subject → File → List Tree → Option File
-with_members Operation f trees = operation_in trees >>= with_operation f
-with_members Goal f trees = goal_in trees >>= with_goal f
+with_members Operation f trees = operation_in f.pointer trees >>= with_operation f
+with_members Goal f trees = goal_in f.pointer trees >>= with_goal f
 
 -- the file with what an item defines
 abbrev pub with_item : File → Tree → Option File

@@ -13,7 +13,8 @@ use Rattle.bv_terms.specs.declared.value.Sort.TheVariants as sort
 use Rattle.bv_terms.specs.declared.value.Value.{Value}
 use Rattle.bv_terms.specs.declared.value.Value.TheVariants as val
 use Rattle.bv_terms.specs.Term.{Term, value}
-use Rattle.bv_terms.specs.Sorts.{HasSort, HaveSorts, sort_of, InputsFit}
+use Rattle.bv_terms.specs.Sorts.{HasSort, HaveSorts}
+use Rattle.bv_terms.specs.WellSorted.{sort_of, InputsFit}
 use Rattle.std.proofs.Common.{All, Contains}
 use Rattle.std.proofs.lemmas.List.Elements.{All-head, All-tail}
 use Rattle.bv_terms.specs.Eval.{values_in, IsValued}
@@ -128,18 +129,18 @@ result_fits s name d vs r u can e =
     subst (InputsFit vs) at.2 (subst (λ (a : TermId). InputsFit vs (term_at s.terms a)) here (can.fit r at.0 l))
 
 -- a result of an operation has its sort
-result-sorted : (o : Operation) (vs : List Value) (r : ℕ) (t : Sort)
+result-sorted : (p : ℕ) (o : Operation) (vs : List Value) (r : ℕ) (t : Sort)
     → ((u : Term) → slice_get o.results r ≡ Some u → InputsFit vs u)
-    → option_and_then sort_of (slice_get o.results r) ≡ Some t
+    → option_and_then (sort_of p) (slice_get o.results r) ≡ Some t
     → HasSort t (unwrap_or (slice_get (map (value vs) o.results) r) (val.Bool false))
-result-sorted o vs r t fits e =
+result-sorted p o vs r t fits e =
     subst (λ (x : Option Value). HasSort t (unwrap_or x (val.Bool false))) (sym (slice_get-map (value vs) o.results r))
     (by (slice_get o.results r) fits e)
   where
-    by : (x : Option Term) → ((u : Term) → x ≡ Some u → InputsFit vs u) → option_and_then sort_of x ≡ Some t
+    by : (x : Option Term) → ((u : Term) → x ≡ Some u → InputsFit vs u) → option_and_then (sort_of p) x ≡ Some t
         → HasSort t (unwrap_or (option_map (value vs) x) (val.Bool false))
     by None fits e = absurd (cc)
-    by (Some u) fits e = value-sorted vs u t e (fits u refl)
+    by (Some u) fits e = value-sorted p vs u t e (fits u refl)
 
 -- ---- nodes, one by one
 
@@ -159,7 +160,7 @@ no_source f g nodes inputs h (Input k) t e =
 no_source f g nodes inputs h (Out node r) t e =
     let none : nat_lt node 0 ≡ false = grind (arith, nat_tests) in
     let no : None ≡ Some t =
-    ap (λ b. cond b (operation_sort (option_and_then (λ (n : Node). slice_get f.ops n.op) (slice_get nodes node)) r)
+    ap (λ b. cond b (operation_sort f (option_and_then (λ (n : Node). slice_get f.ops n.op) (slice_get nodes node)) r)
     None) (sym none) ∙ e in
     absurd (cc)
 
@@ -174,11 +175,12 @@ IsGiven-start s g_at nodes inputs outs e h = record {
 }
 
 abbrev out_sort : File → List Node → ℕ → ℕ → Option Sort
-out_sort f nodes node r = operation_sort (option_and_then (λ (n : Node). slice_get f.ops n.op) (slice_get nodes node)) r
+out_sort f nodes node r =
+    operation_sort f (option_and_then (λ (n : Node). slice_get f.ops n.op) (slice_get nodes node)) r
 
 one_more : (f : File) (g : Goal) (nodes : List Node) (k : ℕ) (inputs : List Value) (outs : List (List Value))
     (new : List Value) (n : Node) → length outs ≡ k → slice_get nodes k ≡ Some n → SourcesFit f g nodes k inputs outs
-    → ((r : ℕ) (t : Sort) → operation_sort (slice_get f.ops n.op) r ≡ Some t
+    → ((r : ℕ) (t : Sort) → operation_sort f (slice_get f.ops n.op) r ≡ Some t
     → HasSort t (unwrap_or (slice_get new r) (val.Bool false)))
     → SourcesFit f g nodes (k + 1) inputs (outs ++ new ∷ [])
 one_more f g nodes k inputs outs new n long here old fresh (Input i) t e = old (Input i) t e
@@ -188,8 +190,8 @@ one_more f g nodes k inputs outs new n long here old fresh (Out node r) t e =
           let sorted : out_sort f nodes node r ≡ Some t =
           ap (λ b. cond b (out_sort f nodes node r) None) (sym yes) ∙ e in
           let at : slice_get nodes node ≡ Some n = ap (slice_get nodes) same ∙ here in
-          let there : operation_sort (slice_get f.ops n.op) r ≡ Some t =
-          ap (λ (o : Option Node). operation_sort (option_and_then (λ (n : Node). slice_get f.ops n.op) o) r)
+          let there : operation_sort f (slice_get f.ops n.op) r ≡ Some t =
+          ap (λ (o : Option Node). operation_sort f (option_and_then (λ (n : Node). slice_get f.ops n.op) o) r)
           (sym at) ∙ sorted in
           let last : slice_get (outs ++ new ∷ []) node ≡ Some new = slice_get-at_end outs new [] node (omega arith) in
           subst (λ (o : Option (List Value)). HasSort t (unwrap_or (slice_get (unwrap_or o []) r) (val.Bool false)))
@@ -276,11 +278,11 @@ IsGiven-more s g_at nodes inputs outs place n new more h at l item given is grow
     let can = CanEval-op s n.op name d d.results vs e refl (given.sorted name d e) in
     let there : slice_get (file s).ops n.op ≡ Some o = operation_is s n.op name d e in
     let new_is : new ≡ map (value vs) o.results = is ∙ results-are s n name d args e in
-    let fresh : (r : ℕ) (t : Sort) → operation_sort (slice_get (file s).ops n.op) r ≡ Some t
+    let fresh : (r : ℕ) (t : Sort) → operation_sort (file s) (slice_get (file s).ops n.op) r ≡ Some t
     → HasSort t (unwrap_or (slice_get new r) (val.Bool false)) =
     λ r t sorted. subst (λ (xs : List Value). HasSort t (unwrap_or (slice_get xs r) (val.Bool false))) (sym new_is)
-    (result-sorted o vs r t (λ u q. result_fits s name d vs r u can q)
-    (ap (λ x. operation_sort x r) (sym there) ∙ sorted)) in
+    (result-sorted s.pointer o vs r t (λ u q. result_fits s name d vs r u can q)
+    (ap (λ x. operation_sort (file s) x r) (sym there) ∙ sorted)) in
     let front : drop place nodes ≡ n ∷ drop (place + 1) nodes =
     drop_more nodes place n l ∙ ap (λ x. x ∷ drop (place + 1) nodes) (sym item) in
     let step : outs_from (file s) inputs outs (drop place nodes) ≡ outs_from (file s) inputs

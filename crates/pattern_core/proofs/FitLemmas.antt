@@ -9,7 +9,7 @@ use Rattle.std.proofs.lemmas.Option.{slice_get-map, slice_get-get_or, same_Some}
 use Rattle.bv_terms.specs.declared.op.TermId.{TermId}
 use Rattle.bv_terms.specs.declared.value.Sort.{Sort}
 use Rattle.bv_terms.specs.Term.{Term}
-use Rattle.bv_terms.specs.Sorts.{sort_of}
+use Rattle.bv_terms.specs.WellSorted.{sort_of}
 use Rattle.bv_terms.specs.Table.{terms_of, term_in, term_at}
 use Rattle.isel_spec.specs.declared.definitions.OpDef.{OpDef}
 use Rattle.isel_spec.specs.declared.definitions.GoalDef.{GoalDef}
@@ -22,7 +22,7 @@ use Rattle.pattern_core.specs.declared.pattern.Node.{Node}
 use Rattle.pattern_core.specs.declared.pattern.Pattern.{Pattern}
 use Rattle.pattern_core.specs.Pattern.{operation_sort, source_sort, Pairwise, IsFitting, IsOf, IsAmong, IsUsed}
 use Rattle.pattern_core.specs.Pattern.{IsWellFormed, args_of}
-use Rattle.isel_spec.proofs.SpecLemmas.{operation_is, goal_is}
+use Rattle.isel_spec.proofs.SpecLemmas.{pointer_is, sort_in_file, operation_is, goal_is}
 
 -- ---- a test's answer
 
@@ -63,8 +63,8 @@ Pairwise-more R xs ys i d e l k r h = let n : suc i ≡ i + 1 =
 
 pub operation_sort-is : (s : Spec) (op place k j : ℕ) (name : List ℕ) (d : OpDef) (results : List TermId) (r : TermId)
     (x : Sort) → k ≡ op → j ≡ place → slice_get s.ops k ≡ Some (name, d) → results ≡ d.results → j < length results
-    → sort_of (term_at s.terms (get_or results j r)) ≡ Some x
-    → Some x ≡ operation_sort (slice_get (file s).ops op) place
+    → sort_of s.terms.pointer (term_at s.terms (get_or results j r)) ≡ Some x
+    → Some x ≡ operation_sort (file s) (slice_get (file s).ops op) place
 operation_sort-is s op place k j name d results r x p q e as' l sorted =
     let term : TermId → Term = λ at. term_in (terms_of s.terms) at.0 in
     let there : slice_get d.results place ≡ Some (get_or results j r) =
@@ -73,19 +73,22 @@ operation_sort-is s op place k j name d results r x p q e as' l sorted =
     slice_get-map term d.results place ∙ ap (option_map term) there in
     let whole : slice_get (file s).ops op ≡ Some (operation s.terms (name, d)) =
     ap (slice_get (file s).ops) (sym p) ∙ operation_is s k name d e in
-    sym (ap (λ o. operation_sort o place) whole ∙ ap (option_and_then sort_of) found ∙ sorted)
+    sym (ap (λ o. operation_sort (file s) o place) whole ∙ ap (option_and_then (sort_of s.pointer)) found
+    ∙ sort_in_file s (term_at s.terms (get_or results j r)) ∙ sorted)
 
-sorts-map : (ts : List Term) (ats : List TermId)
-    → map sort_of (map (λ (at : TermId). term_in ts at.0) ats) ≡ map (λ (at : TermId). sort_of (term_in ts at.0)) ats
-sorts-map ts [] = refl
-sorts-map ts (at ∷ ats) = ap (λ xs. sort_of (term_in ts at.0) ∷ xs) (sorts-map ts ats)
+sorts-map : (p : ℕ) (ts : List Term) (ats : List TermId)
+    → map (sort_of p) (map (λ (at : TermId). term_in ts at.0) ats)
+    ≡ map (λ (at : TermId). sort_of p (term_in ts at.0)) ats
+sorts-map p ts [] = refl
+sorts-map p ts (at ∷ ats) = ap (λ xs. sort_of p (term_in ts at.0) ∷ xs) (sorts-map p ts ats)
 
 pub goal_sorts : (s : Spec) (k : ℕ) (name : List ℕ) (d : GoalDef) (g : Goal) (results : List TermId)
     → slice_get s.goals k ≡ Some (name, d) → slice_get (file s).goals k ≡ Some g → results ≡ d.results
-    → map sort_of g.results ≡ map (λ (at : TermId). sort_of (term_at s.terms at)) results
+    → map (sort_of s.pointer) g.results ≡ map (λ (at : TermId). sort_of s.terms.pointer (term_at s.terms at)) results
 goal_sorts s k name d g results e h as' =
-    ap (λ (x : Goal). map sort_of x.results) (goal_is s k name d g e h) ∙ sorts-map (terms_of s.terms) d.results
-    ∙ ap (map (λ (at : TermId). sort_of (term_at s.terms at))) (sym as')
+    ap (λ (x : Goal). map (sort_of s.pointer) x.results) (goal_is s k name d g e h)
+    ∙ sorts-map s.pointer (terms_of s.terms) d.results
+    ∙ (λ i. map (λ (at : TermId). sort_of (pointer_is s i) (term_at s.terms at)) (sym as' i))
 
 -- ---- a node that fits
 
@@ -144,5 +147,6 @@ used-answer p node nodes xs i b e f l all iff =
 -- ---- results
 
 pub results-of : (f : File) (g : Goal) (p : Pattern) (nodes : List Node) (xs : List Src) → nodes ≡ p.nodes
-    → xs ≡ p.results → IsWellFormed f g p → map (source_sort f g nodes (length nodes)) xs ≡ map sort_of g.results
+    → xs ≡ p.results → IsWellFormed f g p → map (source_sort f g nodes (length nodes)) xs
+    ≡ map (sort_of f.pointer) g.results
 results-of f g p nodes xs e x wf = (λ i. map (source_sort f g (e i) (length (e i))) (x i)) ∙ wf.results

@@ -14,7 +14,7 @@ use Rattle.std.proofs.lemmas.Option.{slice_get_within, slice_get-get_or, unwrap_
 use Rattle.bv_terms.specs.declared.op.TermId.{TermId}
 use Rattle.bv_terms.specs.declared.value.Sort.{Sort}
 use Rattle.bv_terms.specs.Term.{Term}
-use Rattle.bv_terms.specs.Sorts.{sort_of}
+use Rattle.bv_terms.specs.WellSorted.{sort_of}
 use Rattle.bv_terms.specs.Table.{Table, IsTable, terms_of, term_in}
 use Rattle.isel_spec.specs.declared.definitions.OpDef.{OpDef}
 use Rattle.isel_spec.specs.declared.definitions.GoalDef.{GoalDef}
@@ -26,6 +26,7 @@ use Rattle.pattern_core.specs.declared.pattern.Src.{Src}
 use Rattle.pattern_core.specs.declared.pattern.Src.TheVariants.{Input, Out}
 use Rattle.pattern_core.specs.declared.pattern.Node.{Node}
 use Rattle.pattern_core.specs.declared.pattern.Pattern.{Pattern}
+use Rattle.isel_spec.proofs.SpecLemmas.{pointer_is}
 use Rattle.pattern_core.specs.Pattern.{operation_sort, source_sort, IsWellFormed}
 use Rattle.pattern_core.specs.Order.{source_number, source_cmp, node_cmp, multiset, pattern_cmp, IsTotalOrderOf}
 use Rattle.bv_terms.proofs.TableLemmas.{length-terms_of}
@@ -112,14 +113,15 @@ same_pattern p q a b e =
 -- a goal of at most four arguments and results that have sorts, and operations of at most three results
 pub record IsLimited (f : File) (g : Goal) : Type 0 where
   pub args : length g.args ≤ 4
-  pub sorted : Each (λ (t : Term). IsSome (sort_of t)) g.results
+  pub sorted : Each (λ (t : Term). IsSome (sort_of f.pointer t)) g.results
   pub results : (k : ℕ) (o : Operation) → slice_get f.ops k ≡ Some o → length o.results ≤ 3
 
-small_result : (o : Option Operation) (result : ℕ) (t : Sort) → ((p : Operation) → o ≡ Some p → length p.results ≤ 3)
-    → operation_sort o result ≡ Some t → result < 3
-small_result None result t few e = absurd (cc)
-small_result (Some o) result t few e =
-    let there = is_some sort_of (slice_get o.results result) t e in
+small_result : (f : File) (o : Option Operation) (result : ℕ) (t : Sort)
+    → ((p : Operation) → o ≡ Some p → length p.results ≤ 3)
+    → operation_sort f o result ≡ Some t → result < 3
+small_result f None result t few e = absurd (cc)
+small_result f (Some o) result t few e =
+    let there = is_some (sort_of f.pointer) (slice_get o.results result) t e in
     let within = slice_get_within o.results result there.0 there.1 in
     let three = few o refl in
     omega (arith, within, three)
@@ -132,8 +134,8 @@ small_source f g limits nodes k (Input i) t e =
     omega (arith, within, four)
 small_source f g limits nodes k (Out node result) t e =
     let op = option_and_then (λ (n : Node). slice_get f.ops n.op) (slice_get nodes node) in
-    small_result op result t (λ p. few (slice_get nodes node) p)
-    (in_then (nat_lt node k) (operation_sort op result) t e)
+    small_result f op result t (λ p. few (slice_get nodes node) p)
+    (in_then (nat_lt node k) (operation_sort f op result) t e)
   where
     few : (n : Option Node) (p : Operation) → option_and_then (λ (n : Node). slice_get f.ops n.op) n ≡ Some p
         → length p.results ≤ 3
@@ -155,10 +157,10 @@ all_some : (ss : List Sort) → Each (λ (o : Option Sort). IsSome o) (map (λ s
 all_some [] = tt
 all_some (s ∷ ss) = (refl, all_some ss)
 
-some_of : (ts : List Term) → Each (λ (t : Term). IsSome (sort_of t)) ts
-    → Each (λ (o : Option Sort). IsSome o) (map sort_of ts)
-some_of [] all = tt
-some_of (t ∷ ts) all = (all.0, some_of ts all.1)
+some_of : (p : ℕ) (ts : List Term) → Each (λ (t : Term). IsSome (sort_of p t)) ts
+    → Each (λ (o : Option Sort). IsSome o) (map (sort_of p) ts)
+some_of p [] all = tt
+some_of p (t ∷ ts) all = (all.0, some_of p ts all.1)
 
 small_pattern : (f : File) (g : Goal) → IsLimited f g → (p : Pattern) → IsWellFormed f g p → IsSmallPattern p
 unfolding HasSmall
@@ -168,8 +170,8 @@ small_pattern f g limits p wf = record {
       small_sources f g limits p.nodes k n.args (map (λ s. Some s) fit.operation.args) fit.args
       (all_some fit.operation.args));
   results =
-      small_sources f g limits p.nodes (length p.nodes) p.results (map sort_of g.results) wf.results
-      (some_of g.results limits.sorted);
+      small_sources f g limits p.nodes (length p.nodes) p.results (map (sort_of f.pointer) g.results) wf.results
+      (some_of f.pointer g.results limits.sorted);
 }
 
 pub is_total_order : (f : File) (g : Goal) → IsLimited f g → IsTotalOrderOf (IsWellFormed f g) pattern_cmp
@@ -223,7 +225,7 @@ term_there ts k l =
 -- results that stand in a table have sorts
 sorted_results : (table : Table) → IsTable table → (ss : List Sort) (ats : List TermId)
     → are_sound table ss ats ≡ true
-    → Each (λ (t : Term). IsSome (sort_of t)) (map (λ (a : TermId). term_in (terms_of table) a.0) ats)
+    → Each (λ (t : Term). IsSome (sort_of table.pointer t)) (map (λ (a : TermId). term_in (terms_of table) a.0) ats)
 sorted_results table is ss [] h = tt
 sorted_results table is ss (at ∷ ats) h =
     let there = nat_lt at.0 (length table.nodes) in
@@ -237,7 +239,7 @@ sorted_results table is ss (at ∷ ats) h =
     (first, sorted_results table is ss ats both.1)
 
 limited_goal : (table : Table) → IsTable table → (e : List ℕ × GoalDef) → is_sound_goal table e ≡ true
-    → (length (goal table e).args ≤ 4) × Each (λ (t : Term). IsSome (sort_of t)) (goal table e).results
+    → (length (goal table e).args ≤ 4) × Each (λ (t : Term). IsSome (sort_of table.pointer t)) (goal table e).results
 limited_goal table is e h =
     let k = sound_goal table e h in (
       subst (λ n. n ≤ 4) (sym (length-map e.1.args (λ a. a.1))) k.few,
@@ -257,6 +259,8 @@ IsLimited-from_spec s k g table e =
     let limits = limited_goal s.terms table at.0 (list_all_at (is_sound_goal s.terms) s.goals k at.0 sound at.1) in
     record {
       args = subst (λ (x : Goal). length x.args ≤ 4) at.2 limits.0;
-      sorted = subst (λ (x : Goal). Each (λ (t : Term). IsSome (sort_of t)) x.results) at.2 limits.1;
+      sorted =
+          subst (λ (p : ℕ). Each (λ (t : Term). IsSome (sort_of p t)) g.results) (sym (pointer_is s))
+          (subst (λ (x : Goal). Each (λ (t : Term). IsSome (sort_of s.terms.pointer t)) x.results) at.2 limits.1);
       results = few_results s;
     }

@@ -11,7 +11,7 @@ use Rattle.pattern_core.specs.Order.{pattern_cmp, IsRising}
 
 -- no well-formed pattern of at most this size is a rule
 pub record HasNoRule (f : File) (g : Goal) (size : ℕ) : Type 0 where
-  pub no_memory : HasNoMemory g
+  pub no_memory : HasNoMemory f g
   pub none : (p : Pattern) → IsWellFormed f g p → length p.nodes ≤ size → IsRule f g p → ⊥
 
 -- some is, of this size, and none is smaller
@@ -24,7 +24,7 @@ pub record IsLeastSize (f : File) (g : Goal) (size : ℕ) : Type 0 where
 
 -- the canonical rules of this size, in order, each once
 pub record AreRules (f : File) (g : Goal) (size : ℕ) (rules : List Pattern) : Type 0 where
-  pub no_memory : HasNoMemory g
+  pub no_memory : HasNoMemory f g
   pub rising : IsRising pattern_cmp rules
   pub members : (p : Pattern)
       → Contains rules p ↔ (IsWellFormed f g p × IsCanonical p × (length p.nodes ≡ size) × IsRule f g p)

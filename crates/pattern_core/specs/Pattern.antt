@@ -8,7 +8,8 @@ use Rattle.bv_terms.specs.declared.value.Sort.TheVariants as sort
 use Rattle.bv_terms.specs.declared.value.Value.{Value}
 use Rattle.bv_terms.specs.declared.value.Value.TheVariants as val
 use Rattle.bv_terms.specs.Term.{value}
-use Rattle.bv_terms.specs.Sorts.{sort_of, HaveSorts}
+use Rattle.bv_terms.specs.Sorts.{HaveSorts}
+use Rattle.bv_terms.specs.WellSorted.{sort_of}
 use Rattle.isel_spec.specs.File.{File, Operation, Goal}
 use Rattle.pattern_core.specs.declared.pattern.Src.{Src}
 use Rattle.pattern_core.specs.declared.pattern.Src.TheVariants.{Input, Out}
@@ -46,26 +47,26 @@ goal_results g inputs = map (value inputs) g.results
 
 -- No argument and no result of the goal is a memory. Nothing is claimed of any other goal: a memory has no values yet,
 -- so each pattern would give the results of a goal that takes one, on all of its inputs.
-pub record HasNoMemory (g : Goal) : Type 0 where
+pub record HasNoMemory (f : File) (g : Goal) : Type 0 where
   pub args : ¬ Contains g.args sort.Mem
-  pub results : ¬ Contains (map sort_of g.results) (Some sort.Mem)
+  pub results : ¬ Contains (map (sort_of f.pointer) g.results) (Some sort.Mem)
 
 -- the pattern gives the goal's results on every input
 pub record IsRule (f : File) (g : Goal) (p : Pattern) : Type 0 where
-  pub no_memory : HasNoMemory g
+  pub no_memory : HasNoMemory f g
   pub same : (inputs : List Value) → HaveSorts g.args inputs → pattern_results f p inputs ≡ goal_results g inputs
 
 -- the sort of an operation's result, where it has it
-abbrev pub operation_sort : Option Operation → ℕ → Option Sort
-operation_sort None result = None
-operation_sort (Some o) result = option_and_then sort_of (slice_get o.results result)
+abbrev pub operation_sort : File → Option Operation → ℕ → Option Sort
+operation_sort f None result = None
+operation_sort f (Some o) result = option_and_then (sort_of f.pointer) (slice_get o.results result)
 
 -- the sort of a source of a node or a result that stands after k nodes, where it has one
 abbrev pub source_sort : File → Goal → List Node → ℕ → Src → Option Sort
 source_sort f g nodes k (Input i) = slice_get g.args i
 source_sort f g nodes k (Out node result) =
     if nat_lt node k
-    then operation_sort (option_and_then (λ (n : Node). slice_get f.ops n.op) (slice_get nodes node)) result
+    then operation_sort f (option_and_then (λ (n : Node). slice_get f.ops n.op) (slice_get nodes node)) result
     else None
 
 -- lists of one length, whose elements stand in a relation one by one
@@ -108,5 +109,5 @@ IsUsed p k =
 pub record IsWellFormed (f : File) (g : Goal) (p : Pattern) : Type 0 where
   pub size : length p.nodes ≤ 6
   pub nodes : AreFitting f g p.nodes
-  pub results : map (source_sort f g p.nodes (length p.nodes)) p.results ≡ map sort_of g.results
+  pub results : map (source_sort f g p.nodes (length p.nodes)) p.results ≡ map (sort_of f.pointer) g.results
   pub used : (k : ℕ) → k < length p.nodes → IsUsed p k

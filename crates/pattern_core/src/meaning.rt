@@ -6,7 +6,8 @@ ghost use Rattle.std.specs.Prelude.{IfOk, OnOk, All};
 ghost use Rattle.bv_terms.specs.declared.op.TermId.{TermId};
 ghost use Rattle.bv_terms.specs.Term.{value};
 ghost use Rattle.bv_terms.specs.Eval.{values_in};
-ghost use Rattle.bv_terms.specs.Sorts.{HaveSorts, InputsFit};
+ghost use Rattle.bv_terms.specs.Sorts.{HaveSorts};
+ghost use Rattle.bv_terms.specs.WellSorted.{InputsFit};
 ghost use Rattle.bv_terms.specs.Table.{term_at};
 ghost use Rattle.isel_spec.specs.File.{Goal};
 ghost use Rattle.isel_spec.specs.Spec.{file};
@@ -56,8 +57,6 @@ fn values_of(
     ensures { IfOk result (λ v.
         v.items ≡ map (λ (at : TermId). value env.now.values (term_at terms.now at)) results.now) }
 {
-    // That inputs which fit the terms fit their subterms rests on the table, as `len` tells it.
-    terms.len();
     let nodes = terms.subterms(alloc, results)?;
     terms.eval_nodes(&nodes, env, room);
     values_at(alloc, results, room)

@@ -2,7 +2,7 @@
 
 ghost use Rattle.std.specs.Prelude.{◌≡◌, ◌↔◌, ℕ, ◌<◌, ◌≤◌, ◌^◌, List, length, map, Some, slice_get, IsTrue};
 ghost use Rattle.bv_terms.specs.declared.value.Sort.{Sort};
-ghost use Rattle.bv_terms.specs.Sorts.{sort_of};
+ghost use Rattle.bv_terms.specs.WellSorted.{sort_of};
 ghost use Rattle.pattern_core.specs.declared.pattern.Node.{Node};
 ghost use Rattle.isel_spec.specs.File.{Goal};
 ghost use Rattle.isel_spec.specs.Spec.{file};
@@ -25,7 +25,7 @@ fn has_sort(found: Option<Sort>, sort: Sort) -> bool
 
 /// The sort of a result of an operation, where the file has the operation and it has the result.
 fn operation_sort(spec: &Spec, op: u16, place: u8) -> Option<Sort>
-    ensures { result ≡ operation_sort (slice_get (file spec.now).ops op) place }
+    ensures { result ≡ operation_sort (file spec.now) (slice_get (file spec.now).ops op) place }
 {
     let op = usize::from(op);
     if op >= spec.ops.len() {
@@ -104,7 +104,8 @@ fn have_result_sorts(spec: &Spec, goal: u32, nodes: &[Node], sources: &[Src]) ->
     requires { goal < length spec.now.goals }
     ensures { (g : Goal) → slice_get (file spec.now).goals goal ≡ Some g →
         (IsTrue result
-        ↔ (map (source_sort (file spec.now) g nodes.now (length nodes.now)) sources.now ≡ map sort_of g.results)) }
+        ↔ (map (source_sort (file spec.now) g nodes.now (length nodes.now)) sources.now
+        ≡ map (sort_of spec.now.pointer) g.results)) }
 {
     let results = spec.goal(goal).results.as_slice();
     if sources.len() != results.len() {

@@ -9,7 +9,8 @@ use Rattle.std.specs.declared.cmp.Ordering.{Ordering}
 use Rattle.std.specs.declared.cmp.Ordering.TheVariants.{Less, Equal}
 use Rattle.bv_terms.specs.declared.value.Sort.{Sort}
 use Rattle.bv_terms.specs.Term.{Term, value}
-use Rattle.bv_terms.specs.Sorts.{sort_of, same_sort}
+use Rattle.bv_terms.specs.Sorts.{same_sort}
+use Rattle.bv_terms.specs.WellSorted.{sort_of}
 use Rattle.isel_spec.specs.File.{File, Operation, Goal, stays_in}
 use Rattle.pattern_core.specs.declared.pattern.Src.TheVariants.{Input}
 use Rattle.pattern_core.specs.declared.pattern.Node.{Node}
@@ -42,13 +43,13 @@ use Rattle.list_lemmas.proofs.Orders.{nat_cmp-less as nat_cmp-lt, nat_cmp-same a
 -- what the enumeration is given
 pub record IsTask (f : File) (g : Goal) (w : Wanted) : Type 0 where
   pub plain : (o : Operation) → Contains f.ops o → IsPlain o
-  pub no_memory : HasNoMemory g
+  pub no_memory : HasNoMemory f g
   pub term : Term
   pub results : g.results ≡ term ∷ []
-  pub wanted : IsWanted g w
+  pub wanted : IsWanted f g w
 
-sorted : (f : File) (g : Goal) (w : Wanted) (k : IsTask f g w) → sort_of k.term ≡ Some w.sort
-sorted f g w k = ap (λ rs. sort_of (result_in rs)) (sym k.results) ∙ k.wanted.sort
+sorted : (f : File) (g : Goal) (w : Wanted) (k : IsTask f g w) → sort_of f.pointer k.term ≡ Some w.sort
+sorted f g w k = ap (λ rs. sort_of f.pointer (result_in rs)) (sym k.results) ∙ k.wanted.sort
 
 cases_are : (f : File) (g : Goal) (w : Wanted) (k : IsTask f g w) → w.cases.items ≡ cases_of g.args k.term
 cases_are f g w k = k.wanted.cases ∙ ap (λ rs. cases_of g.args (result_in rs)) k.results
@@ -102,45 +103,47 @@ input_from_rule f g w k p wf none rule =
 -- ---- one node
 
 -- the test of an operation's sort: it passes exactly where the operation gives the sort that is wanted
-gives_sort : (w : Wanted) (o : Operation)
-    → option_map_or (same_sort w.sort) (sort_of (result_in o.results)) false ≡ true
-    → sort_of (result_in o.results) ≡ Some w.sort
-gives_sort w o h = go (sort_of (result_in o.results)) h
+gives_sort : (f : File) (w : Wanted) (o : Operation)
+    → option_map_or (same_sort w.sort) (sort_of f.pointer (result_in o.results)) false ≡ true
+    → sort_of f.pointer (result_in o.results) ≡ Some w.sort
+gives_sort f w o h = go (sort_of f.pointer (result_in o.results)) h
   where
     go : (s : Option Sort) → option_map_or (same_sort w.sort) s false ≡ true → s ≡ Some w.sort
     go None e = cc
     go (Some s) e = ap Some (sym (same_sort-true w.sort s e))
 
-sort_given : (w : Wanted) (o : Operation) → sort_of (result_in o.results) ≡ Some w.sort
-    → option_map_or (same_sort w.sort) (sort_of (result_in o.results)) false ≡ true
-sort_given w o h = ap (λ s. option_map_or (same_sort w.sort) s false) h ∙ same_sort-refl w.sort w.sort refl
+sort_given : (f : File) (w : Wanted) (o : Operation) → sort_of f.pointer (result_in o.results) ≡ Some w.sort
+    → option_map_or (same_sort w.sort) (sort_of f.pointer (result_in o.results)) false ≡ true
+sort_given f w o h = ap (λ s. option_map_or (same_sort w.sort) s false) h ∙ same_sort-refl w.sort w.sort refl
 
 -- a pattern of one of the operations that stand from the op-th place on
-abbrev IsFromOperation : Wanted → ℕ → List Operation → Pattern → Type 0
-IsFromOperation w op os p = (d : ℕ) × (o : Operation) × (slice_get os d ≡ Some o) × In (operation_rules w (op + d) o) p
+abbrev IsFromOperation : File → Wanted → ℕ → List Operation → Pattern → Type 0
+IsFromOperation f w op os p = (d : ℕ) × (o : Operation) × (slice_get os d ≡ Some o) × In
+    (operation_rules f w (op + d) o) p
 
-of_rules_from : (w : Wanted) (op : ℕ) (os : List Operation) (p : Pattern) → In (rules_from w op os) p
-    → IsFromOperation w op os p
-of_rules_from w op [] p h = absurd h
-of_rules_from w op (o ∷ os) p h =
-    elim (In-append_cases (operation_rules w op o) (rules_from w (op + 1) os) p h) [
-      | inl a ↦ (let here : op ≡ op + 0 = omega arith in (0, o, refl, subst (λ n. In (operation_rules w n o) p) here a))
-      | inr b ↦ (let r = of_rules_from w (op + 1) os p b in let later : (op + 1) + r.0 ≡ op + suc r.0 = omega arith in
-          (suc r.0, r.1, r.2, subst (λ n. In (operation_rules w n r.1) p) later r.3))
+of_rules_from : (f : File) (w : Wanted) (op : ℕ) (os : List Operation) (p : Pattern) → In (rules_from f w op os) p
+    → IsFromOperation f w op os p
+of_rules_from f w op [] p h = absurd h
+of_rules_from f w op (o ∷ os) p h =
+    elim (In-append_cases (operation_rules f w op o) (rules_from f w (op + 1) os) p h) [
+      | inl a ↦ (let here : op ≡ op + 0 = omega arith in
+          (0, o, refl, subst (λ n. In (operation_rules f w n o) p) here a))
+      | inr b ↦ (let r = of_rules_from f w (op + 1) os p b in let later : (op + 1) + r.0 ≡ op + suc r.0 = omega arith in
+          (suc r.0, r.1, r.2, subst (λ n. In (operation_rules f w n r.1) p) later r.3))
     ]
 
-in_rules_from : (w : Wanted) (op : ℕ) (os : List Operation) (p : Pattern) (d : ℕ) (o : Operation)
-    → slice_get os d ≡ Some o → In (operation_rules w (op + d) o) p → In (rules_from w op os) p
-in_rules_from w op [] p d o e h = cc
-in_rules_from w op (q ∷ os) p zero o e h =
+in_rules_from : (f : File) (w : Wanted) (op : ℕ) (os : List Operation) (p : Pattern) (d : ℕ) (o : Operation)
+    → slice_get os d ≡ Some o → In (operation_rules f w (op + d) o) p → In (rules_from f w op os) p
+in_rules_from f w op [] p d o e h = cc
+in_rules_from f w op (q ∷ os) p zero o e h =
     let same : o ≡ q = cc in
     let here : op + 0 ≡ op = omega arith in
-    In-append_left (operation_rules w op q) (rules_from w (op + 1) os) p
-    (subst (λ n. In (operation_rules w n q) p) here (subst (λ x. In (operation_rules w (op + 0) x) p) same h))
-in_rules_from w op (q ∷ os) p (suc d) o e h =
+    In-append_left (operation_rules f w op q) (rules_from f w (op + 1) os) p
+    (subst (λ n. In (operation_rules f w n q) p) here (subst (λ x. In (operation_rules f w (op + 0) x) p) same h))
+in_rules_from f w op (q ∷ os) p (suc d) o e h =
     let later : op + suc d ≡ (op + 1) + d = omega arith in
-    In-append_right (operation_rules w op q) (rules_from w (op + 1) os) p
-    (in_rules_from w (op + 1) os p d o e (subst (λ n. In (operation_rules w n o) p) later h))
+    In-append_right (operation_rules f w op q) (rules_from f w (op + 1) os) p
+    (in_rules_from f w (op + 1) os p d o e (subst (λ n. In (operation_rules f w n o) p) later h))
 
 operation_decides : (f : File) (g : Goal) (w : Wanted) (k : IsTask f g w) (op : ℕ) (o : Operation)
     (u : IsUsable f g w.sort op o) (ks : List ℕ)
@@ -155,7 +158,7 @@ operation_decides f g w k op o u ks =
     (GivesValue-operation f g w.sort op o u ks)))
 
 usable : (f : File) (g : Goal) (w : Wanted) (k : IsTask f g w) (op : ℕ) (o : Operation) → slice_get f.ops op ≡ Some o
-    → sort_of (result_in o.results) ≡ Some w.sort → IsUsable f g w.sort op o
+    → sort_of f.pointer (result_in o.results) ≡ Some w.sort → IsUsable f g w.sort op o
 usable f g w k op o there sort_is =
     let known = k.plain o (Contains-from_In f.ops o (In-slice_get f.ops op o there)) in
     let only = one_of_length o.results known.results in
@@ -164,18 +167,18 @@ usable f g w k op o there sort_is =
       attrs = known.attrs;
       result = only.0;
       results = only.1;
-      sorted = ap (λ rs. sort_of (result_in rs)) (sym only.1) ∙ sort_is;
+      sorted = ap (λ rs. sort_of f.pointer (result_in rs)) (sym only.1) ∙ sort_is;
     }
 
 rule_from_operation : (f : File) (g : Goal) (w : Wanted) (k : IsTask f g w) (op : ℕ) (o : Operation) (p : Pattern)
-    → slice_get f.ops op ≡ Some o → In (operation_rules w op o) p → IsRuleOfSize f g 1 p
+    → slice_get f.ops op ≡ Some o → In (operation_rules f w op o) p → IsRuleOfSize f g 1 p
 rule_from_operation f g w k op o p there h =
     let agree = term_agrees w.cases.items (result_in o.results) in
     let inputs = w.sorts.items in
     let c =
-    in_if (option_map_or (same_sort w.sort) (sort_of (result_in o.results)) false)
+    in_if (option_map_or (same_sort w.sort) (sort_of f.pointer (result_in o.results)) false)
     (map (operation_pattern op) (filter agree (tuples inputs o.args))) p h in
-    let u = usable f g w k op o there (gives_sort w o c.0) in
+    let u = usable f g w k op o there (gives_sort f w o c.0) in
     let r = In_of_map (operation_pattern op) (filter agree (tuples inputs o.args)) p c.1 in
     let kept = In_of_filter agree (tuples inputs o.args) r.0 r.1 in
     let fit : Fit g.args o.args r.0 =
@@ -187,15 +190,16 @@ rule_from_operation f g w k op o p there h =
       (operation_decides f g w k op o u r.0).0 kept.1,
     )
 
-rule_from_operations : (f : File) (g : Goal) (w : Wanted) (k : IsTask f g w) (p : Pattern) → In (rules_from w 0 f.ops) p
+rule_from_operations : (f : File) (g : Goal) (w : Wanted) (k : IsTask f g w) (p : Pattern)
+    → In (rules_from f w 0 f.ops) p
     → IsRuleOfSize f g 1 p
 rule_from_operations f g w k p h =
-    let r = of_rules_from w 0 f.ops p h in
+    let r = of_rules_from f w 0 f.ops p h in
     let at : slice_get f.ops (0 + r.0) ≡ Some r.1 = subst (λ n. slice_get f.ops n ≡ Some r.1) (omega arith) r.2 in
     rule_from_operation f g w k (0 + r.0) r.1 p at r.3
 
 operation_from_rule : (f : File) (g : Goal) (w : Wanted) (k : IsTask f g w) (p : Pattern) → IsWellFormed f g p
-    → length p.nodes ≡ 1 → IsRule f g p → In (rules_from w 0 f.ops) p
+    → length p.nodes ≡ 1 → IsRule f g p → In (rules_from f w 0 f.ops) p
 operation_from_rule f g w k p wf one rule =
     let node = one_of_length p.nodes one in
     let r = IsOverInputs-from_well_formed f g k.term w.sort p node.0 k.plain k.results (sorted f g w k) wf node.1 in
@@ -210,13 +214,13 @@ operation_from_rule f g w k p wf one rule =
     subst (In (map (operation_pattern r.op) (filter agree (tuples inputs o.args)))) r.is
     (In-map (operation_pattern r.op) (filter agree (tuples inputs o.args)) r.places
     (In-filter agree (tuples inputs o.args) r.places there passes)) in
-    let sort_is : sort_of (result_in o.results) ≡ Some w.sort =
-    ap (λ rs. sort_of (result_in rs)) r.usable.results ∙ r.usable.sorted in
-    let found : In (operation_rules w r.op o) p =
-    if_in (option_map_or (same_sort w.sort) (sort_of (result_in o.results)) false)
-    (map (operation_pattern r.op) (filter agree (tuples inputs o.args))) p (sort_given w o sort_is) listed in
+    let sort_is : sort_of f.pointer (result_in o.results) ≡ Some w.sort =
+    ap (λ rs. sort_of f.pointer (result_in rs)) r.usable.results ∙ r.usable.sorted in
+    let found : In (operation_rules f w r.op o) p =
+    if_in (option_map_or (same_sort w.sort) (sort_of f.pointer (result_in o.results)) false)
+    (map (operation_pattern r.op) (filter agree (tuples inputs o.args))) p (sort_given f w o sort_is) listed in
     let here : r.op ≡ 0 + r.op = omega arith in
-    in_rules_from w 0 f.ops p r.op o r.usable.in_file (subst (λ n. In (operation_rules w n o) p) here found)
+    in_rules_from f w 0 f.ops p r.op o r.usable.in_file (subst (λ n. In (operation_rules f w n o) p) here found)
 
 -- ---- order
 
@@ -265,40 +269,43 @@ ordered_if : (b : Bool) (xs : List Pattern) → IsOrdered ComesBefore xs → IsO
 ordered_if true xs h = h
 ordered_if false xs h = tt
 
-IsOrdered-operation_rules : (w : Wanted) (op : ℕ) (o : Operation) → IsOrdered ComesBefore (operation_rules w op o)
-IsOrdered-operation_rules w op o =
+IsOrdered-operation_rules : (f : File) (w : Wanted) (op : ℕ) (o : Operation)
+    → IsOrdered ComesBefore (operation_rules f w op o)
+IsOrdered-operation_rules f w op o =
     let agree = term_agrees w.cases.items (result_in o.results) in
     let ts = tuples w.sorts.items o.args in
-    ordered_if (option_map_or (same_sort w.sort) (sort_of (result_in o.results)) false)
+    ordered_if (option_map_or (same_sort w.sort) (sort_of f.pointer (result_in o.results)) false)
     (map (operation_pattern op) (filter agree ts))
     (IsOrdered-map IsBefore ComesBefore (operation_pattern op) (tuples_rise op) (filter agree ts)
     (IsOrdered-filter IsBefore agree ts (IsOrdered-tuples w.sorts.items o.args)))
 
 -- a rule of an operation is a pattern of it
-pattern_of : (w : Wanted) (op : ℕ) (o : Operation) (p : Pattern) → In (operation_rules w op o) p
+pattern_of : (f : File) (w : Wanted) (op : ℕ) (o : Operation) (p : Pattern) → In (operation_rules f w op o) p
     → (ks : List ℕ) × (operation_pattern op ks ≡ p)
-pattern_of w op o p h =
+pattern_of f w op o p h =
     let xs = filter (term_agrees w.cases.items (result_in o.results)) (tuples w.sorts.items o.args) in
     let c =
-    in_if (option_map_or (same_sort w.sort) (sort_of (result_in o.results)) false)
+    in_if (option_map_or (same_sort w.sort) (sort_of f.pointer (result_in o.results)) false)
     (map (operation_pattern op) xs) p h in
     let r = In_of_map (operation_pattern op) xs p c.1 in
     (r.0, r.2)
 
-earlier_first : (w : Wanted) (op : ℕ) (o : Operation) (os : List Operation) (p q : Pattern)
-    → In (operation_rules w op o) p → In (rules_from w (op + 1) os) q → ComesBefore p q
-earlier_first w op o os p q i j =
-    let a = pattern_of w op o p i in
-    let r = of_rules_from w (op + 1) os q j in
-    let b = pattern_of w ((op + 1) + r.0) r.1 q r.3 in
+earlier_first : (f : File) (w : Wanted) (op : ℕ) (o : Operation) (os : List Operation) (p q : Pattern)
+    → In (operation_rules f w op o) p → In (rules_from f w (op + 1) os) q → ComesBefore p q
+earlier_first f w op o os p q i j =
+    let a = pattern_of f w op o p i in
+    let r = of_rules_from f w (op + 1) os q j in
+    let b = pattern_of f w ((op + 1) + r.0) r.1 q r.3 in
     subst (λ x. ComesBefore x q) a.1
     (subst (ComesBefore (operation_pattern op a.0)) b.1 (operations_rise op ((op + 1) + r.0) a.0 b.0 (omega arith)))
 
-IsOrdered-rules_from : (w : Wanted) (op : ℕ) (os : List Operation) → IsOrdered ComesBefore (rules_from w op os)
-IsOrdered-rules_from w op [] = tt
-IsOrdered-rules_from w op (o ∷ os) =
-    IsOrdered-append ComesBefore (operation_rules w op o) (rules_from w (op + 1) os) (IsOrdered-operation_rules w op o)
-    (IsOrdered-rules_from w (op + 1) os) (earlier_first w op o os)
+IsOrdered-rules_from : (f : File) (w : Wanted) (op : ℕ) (os : List Operation)
+    → IsOrdered ComesBefore (rules_from f w op os)
+IsOrdered-rules_from f w op [] = tt
+IsOrdered-rules_from f w op (o ∷ os) =
+    IsOrdered-append ComesBefore (operation_rules f w op o) (rules_from f w (op + 1) os)
+    (IsOrdered-operation_rules f w op o)
+    (IsOrdered-rules_from f w (op + 1) os) (earlier_first f w op o os)
 
 -- ---- the library
 
@@ -313,14 +320,14 @@ input_AreRules f g w k = record {
       );
 }
 
-operation_AreRules : (f : File) (g : Goal) (w : Wanted) → IsTask f g w → AreRules f g 1 (rules_from w 0 f.ops)
+operation_AreRules : (f : File) (g : Goal) (w : Wanted) → IsTask f g w → AreRules f g 1 (rules_from f w 0 f.ops)
 operation_AreRules f g w k = record {
   no_memory = k.no_memory;
-  rising = IsRising-from_ordered pattern_cmp (rules_from w 0 f.ops) (IsOrdered-rules_from w 0 f.ops);
+  rising = IsRising-from_ordered pattern_cmp (rules_from f w 0 f.ops) (IsOrdered-rules_from f w 0 f.ops);
   members =
       λ p. (
-        λ c. rule_from_operations f g w k p (In-from_Contains (rules_from w 0 f.ops) p c),
-        λ r. Contains-from_In (rules_from w 0 f.ops) p (operation_from_rule f g w k p r.0 r.2 r.3),
+        λ c. rule_from_operations f g w k p (In-from_Contains (rules_from f w 0 f.ops) p c),
+        λ r. Contains-from_In (rules_from f w 0 f.ops) p (operation_from_rule f g w k p r.0 r.2 r.3),
       );
 }
 
@@ -364,9 +371,9 @@ IsLibrary-no_inputs f g w k none =
     )
 
 pub IsLibrary-operations : (f : File) (g : Goal) (w : Wanted) → IsTask f g w → input_rules w ≡ []
-    → IsLibrary f g 1 (rules_from w 0 f.ops)
+    → IsLibrary f g 1 (rules_from f w 0 f.ops)
 IsLibrary-operations f g w k none =
-    elim (cases_nil (rules_from w 0 f.ops)) [
+    elim (cases_nil (rules_from f w 0 f.ops)) [
       | inl empty ↦ inl (
         record { no_memory = k.no_memory; none = λ p wf size rule. by_size p wf rule empty (length p.nodes) refl size },
         empty,
@@ -386,7 +393,7 @@ IsLibrary-operations f g w k none =
           ))
     ]
   where
-    by_size : (p : Pattern) → IsWellFormed f g p → IsRule f g p → rules_from w 0 f.ops ≡ [] → (n : ℕ)
+    by_size : (p : Pattern) → IsWellFormed f g p → IsRule f g p → rules_from f w 0 f.ops ≡ [] → (n : ℕ)
         → length p.nodes ≡ n → n ≤ 1 → ⊥
     by_size p wf rule empty zero e l = no_input_rule f g w k none p wf e rule
     by_size p wf rule empty (suc zero) e l = let found : In [] p =
@@ -396,14 +403,14 @@ IsLibrary-operations f g w k none =
 -- ---- what the code answers
 
 pub IsTask-from_searchable : (f : File) (place : ℕ) (g : Goal) (w : Wanted) → IsSearchable f place
-    → slice_get f.goals place ≡ Some g → IsWanted g w → IsTask f g w
+    → slice_get f.goals place ≡ Some g → IsWanted f g w → IsTask f g w
 IsTask-from_searchable f place g w searchable there wanted =
     let small = searchable.goal g there in
     let only = one_of_length g.results small.results in
     record {
       plain = searchable.operations;
       no_memory =
-          no_memory g only.0 only.1 small.plain
+          no_memory f g only.0 only.1 small.plain
           (subst (λ ts. stays_in g.args (result_in ts) ≡ true) only.1 wanted.stays);
       term = only.0;
       results = only.1;
@@ -423,7 +430,7 @@ IsLibrary-from_inputs f g w bound found k is (inr some) =
     subst (IsLibrary f g bound) (sym is) (IsLibrary-inputs f g w bound k (λ none. some (is ∙ none)))
 
 pub IsLibrary-from_operations : (f : File) (g : Goal) (w : Wanted) (bound : ℕ) (found : List Pattern) → IsTask f g w
-    → bound ≤ 1 → (bound ≡ 0 → ⊥) → input_rules w ≡ [] → found ≡ rules_from w 0 f.ops → IsLibrary f g bound found
+    → bound ≤ 1 → (bound ≡ 0 → ⊥) → input_rules w ≡ [] → found ≡ rules_from f w 0 f.ops → IsLibrary f g bound found
 IsLibrary-from_operations f g w bound found k le pos none is =
     let one : 1 ≡ bound = omega arith in
     subst (λ n. IsLibrary f g n found) one (subst (IsLibrary f g 1) (sym is) (IsLibrary-operations f g w k none))

@@ -5,7 +5,7 @@ use Rattle.std.specs.Prelude.{fold, option_and_then}
 use Rattle.std.proofs.lemmas.Bool.{le-ltb, cond-false}
 use Rattle.bv_terms.specs.declared.value.Sort.{Sort}
 use Rattle.bv_terms.specs.Term.{Term}
-use Rattle.bv_terms.specs.Sorts.{sort_of}
+use Rattle.bv_terms.specs.WellSorted.{sort_of}
 use Rattle.isel_spec.specs.File.{File, Operation, Goal}
 use Rattle.pattern_core.specs.declared.pattern.Src.{Src}
 use Rattle.pattern_core.specs.declared.pattern.Src.TheVariants.{Input, Out}
@@ -36,12 +36,13 @@ IsCanonical-operation op ks = ap (λ l. l ++ 0 ∷ []) (walk_over_inputs (operat
 
 -- ---- no node
 
-pub IsWellFormed-input : (f : File) (g : Goal) (t : Term) (s : Sort) (k : ℕ) → g.results ≡ t ∷ [] → sort_of t ≡ Some s
+pub IsWellFormed-input : (f : File) (g : Goal) (t : Term) (s : Sort) (k : ℕ) → g.results ≡ t ∷ [] → sort_of f.pointer t
+    ≡ Some s
     → slice_get g.args k ≡ Some s → IsWellFormed f g (input_pattern k)
 IsWellFormed-input f g t s k one sorted there = record {
   size = omega arith;
   nodes = λ j n e. cc;
-  results = (λ i. (there ∙ sym sorted) i ∷ []) ∙ ap (map sort_of) (sym one);
+  results = (λ i. (there ∙ sym sorted) i ∷ []) ∙ ap (map (sort_of f.pointer)) (sym one);
   used = λ j l. absurd (omega arith);
 }
 
@@ -55,10 +56,12 @@ one_source f g nodes k s [] h = cc
 one_source f g nodes k s (r ∷ []) h = (r, refl, cc)
 one_source f g nodes k s (r ∷ (q ∷ rs)) h = cc
 
-results_of : (f : File) (g : Goal) (t : Term) (s : Sort) (p : Pattern) → g.results ≡ t ∷ [] → sort_of t ≡ Some s
+results_of : (f : File) (g : Goal) (t : Term) (s : Sort) (p : Pattern) → g.results ≡ t ∷ [] → sort_of f.pointer t
+    ≡ Some s
     → IsWellFormed f g p → HasOneSource f g p.nodes (length p.nodes) s p.results
 results_of f g t s p one sorted wf =
-    one_source f g p.nodes (length p.nodes) s p.results (wf.results ∙ ap (map sort_of) one ∙ (λ i. sorted i ∷ []))
+    one_source f g p.nodes (length p.nodes) s p.results
+    (wf.results ∙ ap (map (sort_of f.pointer)) one ∙ (λ i. sorted i ∷ []))
 
 none_earlier : (f : File) (g : Goal) (nodes : List Node) (node result : ℕ)
     → source_sort f g nodes 0 (Out node result) ≡ None
@@ -74,7 +77,7 @@ input_of_source f g s p (Input k) none is h = (k, h, λ i. record { nodes = sym 
 input_of_source f g s p (Out node result) none is h = let no = none_earlier f g [] node result in cc
 
 pub IsInputOf-from_well_formed : (f : File) (g : Goal) (t : Term) (s : Sort) (p : Pattern) → g.results ≡ t ∷ []
-    → sort_of t ≡ Some s → IsWellFormed f g p → p.nodes ≡ [] → IsInputOf g s p
+    → sort_of f.pointer t ≡ Some s → IsWellFormed f g p → p.nodes ≡ [] → IsInputOf g s p
 IsInputOf-from_well_formed f g t s p one sorted wf none =
     let r = results_of f g t s p one sorted wf in
     input_of_source f g s p r.0 none r.1
@@ -98,21 +101,22 @@ pub record IsUsable (f : File) (g : Goal) (s : Sort) (op : ℕ) (o : Operation) 
   pub attrs : o.attrs ≡ []
   pub result : Term
   pub results : o.results ≡ result ∷ []
-  pub sorted : sort_of result ≡ Some s
+  pub sorted : sort_of f.pointer result ≡ Some s
 
 operation_result : (f : File) (g : Goal) (s : Sort) (op : ℕ) (o : Operation) (n : Node) → IsUsable f g s op o
     → n.op ≡ op → source_sort f g (n ∷ []) 1 (Out 0 0) ≡ Some s
 operation_result f g s op o n u e =
     let there : slice_get f.ops n.op ≡ Some o = ap (slice_get f.ops) e ∙ u.in_file in
-    ap (λ x. operation_sort x 0) there ∙ ap (λ rs. option_and_then sort_of (slice_get rs 0)) u.results ∙ u.sorted
+    ap (λ x. operation_sort f x 0) there ∙ ap (λ rs. option_and_then (sort_of f.pointer) (slice_get rs 0)) u.results
+    ∙ u.sorted
 
 pub IsWellFormed-operation : (f : File) (g : Goal) (t : Term) (s : Sort) (op : ℕ) (o : Operation) (ks : List ℕ)
-    → g.results ≡ t ∷ [] → sort_of t ≡ Some s → IsUsable f g s op o → Fit g.args o.args ks
+    → g.results ≡ t ∷ [] → sort_of f.pointer t ≡ Some s → IsUsable f g s op o → Fit g.args o.args ks
     → IsWellFormed f g (operation_pattern op ks)
 IsWellFormed-operation f g t s op o ks one sorted u fit = record {
   size = omega arith;
   nodes = λ j n e. node j n e;
-  results = (λ i. (operation_result f g s op o n0 u refl ∙ sym sorted) i ∷ []) ∙ ap (map sort_of) (sym one);
+  results = (λ i. (operation_result f g s op o n0 u refl ∙ sym sorted) i ∷ []) ∙ ap (map (sort_of f.pointer)) (sym one);
   used = λ j l. used j l;
 }
   where
@@ -186,14 +190,15 @@ used_by_result n ks r p e nodes results h =
     ]
 
 -- the only result is result 0
-result_zero : (us : List Term) (u : Term) (s : Sort) (result : ℕ) → us ≡ u ∷ []
-    → option_and_then sort_of (slice_get us result) ≡ Some s → (result ≡ 0) × (sort_of u ≡ Some s)
-result_zero us u s zero e h = (refl, ap (λ xs. option_and_then sort_of (slice_get xs 0)) (sym e) ∙ h)
-result_zero us u s (suc k) e h = let past : option_and_then sort_of (slice_get (u ∷ []) (suc k)) ≡ Some s =
-    ap (λ xs. option_and_then sort_of (slice_get xs (suc k))) (sym e) ∙ h in cc
+result_zero : (p : ℕ) (us : List Term) (u : Term) (s : Sort) (result : ℕ) → us ≡ u ∷ []
+    → option_and_then (sort_of p) (slice_get us result) ≡ Some s → (result ≡ 0) × (sort_of p u ≡ Some s)
+result_zero p us u s zero e h = (refl, ap (λ xs. option_and_then (sort_of p) (slice_get xs 0)) (sym e) ∙ h)
+result_zero p us u s (suc k) e h = let past : option_and_then (sort_of p) (slice_get (u ∷ []) (suc k)) ≡ Some s =
+    ap (λ xs. option_and_then (sort_of p) (slice_get xs (suc k))) (sym e) ∙ h in cc
 
 pub IsOverInputs-from_well_formed : (f : File) (g : Goal) (t : Term) (s : Sort) (p : Pattern) (n : Node)
-    → ((o : Operation) → Contains f.ops o → IsPlain o) → g.results ≡ t ∷ [] → sort_of t ≡ Some s → IsWellFormed f g p
+    → ((o : Operation) → Contains f.ops o → IsPlain o) → g.results ≡ t ∷ [] → sort_of f.pointer t ≡ Some s
+    → IsWellFormed f g p
     → p.nodes ≡ n ∷ [] → IsOverInputs f g s p
 IsOverInputs-from_well_formed f g t s p n plain one sorted wf nodes =
     let fitting = wf.nodes 0 n (ap (λ ns. slice_get ns 0) nodes) in
@@ -211,9 +216,9 @@ IsOverInputs-from_well_formed f g t s p n plain one sorted wf nodes =
     (wf.used 0 (subst (λ ns. 0 < length ns) (sym nodes) (omega arith))) in
     let sort_is : source_sort f g (n ∷ []) 1 (Out 0 out.0) ≡ Some s =
     (λ i. source_sort f g (sym nodes i) (length (sym nodes i)) (sym out.1 i)) ∙ r.2 in
-    let at : option_and_then sort_of (slice_get o.results out.0) ≡ Some s =
-    ap (λ x. operation_sort x out.0) (sym fitting.in_file) ∙ sort_is in
-    let zeroth = result_zero o.results only.0 s out.0 only.1 at in
+    let at : option_and_then (sort_of f.pointer) (slice_get o.results out.0) ≡ Some s =
+    ap (λ x. operation_sort f x out.0) (sym fitting.in_file) ∙ sort_is in
+    let zeroth = result_zero f.pointer o.results only.0 s out.0 only.1 at in
     record {
       op = n.op;
       operation = o;

@@ -11,8 +11,9 @@ use Rattle.bv_terms.specs.declared.value.Sort.{Sort}
 use Rattle.bv_terms.specs.declared.value.Value.{Value}
 use Rattle.bv_terms.specs.declared.value.Value.TheVariants as val
 use Rattle.bv_terms.specs.Term.{Term, value}
-use Rattle.bv_terms.specs.Sorts.{HaveSorts, InputsFit, width_of}
-use Rattle.bv_terms.specs.Table.{Table, IsTable, term_at}
+use Rattle.bv_terms.specs.Sorts.{HaveSorts, width_of}
+use Rattle.bv_terms.specs.WellSorted.{InputsFit}
+use Rattle.bv_terms.specs.Table.{Table, term_at}
 use Rattle.bv_terms.specs.Subterm.{AreSubterms, IsTopological}
 use Rattle.bv_terms.specs.Eval.{IsValued}
 use Rattle.bv_terms.proofs.SubtermLemmas.{AreSubterms-fit}
@@ -28,20 +29,18 @@ use Rattle.list_lemmas.proofs.Lookups.{All-one as all_one}
 
 -- what a call of `subterms` says, where the table is known
 pub nodes_found : {T E : Type 0} (table : Table) (at : TermId) (items : T → List TermId) (r : Result T E)
-    → IsTable table
     → at.0 < length table.nodes → IfOk r (λ n. AreSubterms table (at ∷ []) (items n))
     → IfOk r (λ n. IsTopological table (items n)) → IfOk r (λ n. All (Contains (items n)) (at ∷ []))
     → IfOk r (λ n. AreNodesOf table at (items n))
-nodes_found table at items (Ok n) is there exact order results = record {
+nodes_found table at items (Ok n) there exact order results = record {
   there = there;
   itself = results 0 at (omega arith);
   order = order;
   fit = λ inputs fits.
-      AreSubterms-fit table is (at ∷ []) (items n) exact
-      (all_one (λ (r : TermId). r.0 < length table.nodes) at there) inputs
+      AreSubterms-fit table (at ∷ []) (items n) exact inputs
       (all_one (λ (r : TermId). InputsFit inputs (term_at table r)) at fits);
 }
-nodes_found table at items (Err e) is there exact order results = tt
+nodes_found table at items (Err e) there exact order results = tt
 
 pub value_stands : (table : Table) (nodes : List TermId) (at : TermId) (inputs room : List Value) (d : Value)
     → Contains nodes at

@@ -72,7 +72,7 @@ passes_all_cases p ss t plain h =
 abbrev pub GivesValue : File → Pattern → (List Value → Value) → Type 0
 GivesValue f p v = (vs : List Value) → pattern_results f p vs ≡ v vs ∷ []
 
-pub IsRule-from_values : (f : File) (g : Goal) (t : Term) (p : Pattern) (v : List Value → Value) → HasNoMemory g
+pub IsRule-from_values : (f : File) (g : Goal) (t : Term) (p : Pattern) (v : List Value → Value) → HasNoMemory f g
     → g.results ≡ t ∷ [] → GivesValue f p v → ((vs : List Value) → HaveSorts g.args vs → v vs ≡ value vs t)
     → IsRule f g p
 IsRule-from_values f g t p v plain one gives h = record {
@@ -88,18 +88,18 @@ pub values_from_rule : (f : File) (g : Goal) (t : Term) (p : Pattern) (v : List 
 values_from_rule f g t p v one gives rule vs sorts =
     same_head (v vs) (value vs t) (sym (gives vs) ∙ rule.same vs sorts ∙ ap (map (value vs)) one)
 
-pub no_memory_in : (g : Goal) → HasNoMemory g → In g.args sort.Mem → ⊥
-no_memory_in g plain i = plain.args (Contains-from_In g.args sort.Mem i)
+pub no_memory_in : (f : File) (g : Goal) → HasNoMemory f g → In g.args sort.Mem → ⊥
+no_memory_in f g plain i = plain.args (Contains-from_In g.args sort.Mem i)
 
 -- a test of one value in each case decides whether the pattern is a rule
-pub decides_rule : (f : File) (g : Goal) (t : Term) (p : Pattern) (v : List Value → Value) → HasNoMemory g
+pub decides_rule : (f : File) (g : Goal) (t : Term) (p : Pattern) (v : List Value → Value) → HasNoMemory f g
     → g.results ≡ t ∷ [] → GivesValue f p v
     → (list_all (λ (c : Case). same_value (v c.inputs.values) c.result) (cases_of g.args t) ≡ true) ↔ IsRule f g p
 decides_rule f g t p v plain one gives = (
   λ h. IsRule-from_values f g t p v plain one gives
       (λ vs sorts. same_value-true (v vs) (value vs t)
       (passes_everywhere (λ (c : Case). same_value (v c.inputs.values) c.result) g.args t h vs sorts)),
-  λ rule. passes_all_cases (λ (c : Case). same_value (v c.inputs.values) c.result) g.args t (no_memory_in g plain)
+  λ rule. passes_all_cases (λ (c : Case). same_value (v c.inputs.values) c.result) g.args t (no_memory_in f g plain)
       (λ vs sorts. same_value-refl (v vs) (value vs t) (values_from_rule f g t p v one gives rule vs sorts)),
 )
 

@@ -16,7 +16,8 @@ use Rattle.bv_terms.specs.declared.value.Value.{Value}
 use Rattle.bv_terms.specs.declared.value.Value.TheVariants as val
 use Rattle.bv_terms.specs.declared.value.Env.{Env}
 use Rattle.bv_terms.specs.Term.{Term, Apply, End, value}
-use Rattle.bv_terms.specs.Sorts.{sort_of, HasSort, HaveSorts, InputsFit, width_of}
+use Rattle.bv_terms.specs.Sorts.{HasSort, HaveSorts, width_of}
+use Rattle.bv_terms.specs.WellSorted.{sort_of, InputsFit}
 use Rattle.bv_terms.specs.Table.{Table, terms_of, term_in, term_at}
 use Rattle.bv_terms.proofs.TermLemmas.{HaveSorts-at}
 use Rattle.isel_spec.specs.declared.definitions.Kind.{Kind}
@@ -26,7 +27,7 @@ use Rattle.isel_spec.specs.declared.spec.Spec.{Spec}
 use Rattle.isel_spec.specs.File.{Operation, Goal, operation, goal, stays_in, are_sound}
 use Rattle.isel_spec.specs.Spec.{file}
 use Rattle.isel_spec.proofs.SpecLemmas.{IsSoundOp_at, IsSoundGoal_at, sound_result, scope_bare, operation_is}
-use Rattle.isel_spec.proofs.SpecLemmas.{goal_there, InputsFit-from_sorts}
+use Rattle.isel_spec.proofs.SpecLemmas.{goal_there, sort_in_file, InputsFit-from_sorts}
 use Rattle.plain_search.specs.declared.cases.Case.{Case}
 use Rattle.plain_search.specs.declared.enumeration.Wanted.{Wanted}
 use Rattle.plain_search.specs.Enumeration.{IsPlain, IsSearchable}
@@ -122,14 +123,15 @@ cases_have_sorts ss t plain =
     (λ k d l. HaveSorts-numbered ss (get_or (range_with_len 0 (2 ^ sum_by width_of ss)) k d) plain)
 
 pub IsWanted-from_goal : (s : Spec) (k : ℕ) (at : TermId) (w : Wanted) → IsGoalAt s k w.sorts.items at
-    → sort_of (term_at s.terms at) ≡ Some w.sort → w.cases.items ≡ cases_of w.sorts.items (term_at s.terms at)
-    → (g : Goal) → slice_get (file s).goals k ≡ Some g → IsWanted g w
+    → sort_of s.terms.pointer (term_at s.terms at) ≡ Some w.sort → w.cases.items
+    ≡ cases_of w.sorts.items (term_at s.terms at)
+    → (g : Goal) → slice_get (file s).goals k ≡ Some g → IsWanted (file s) g w
 IsWanted-from_goal s k at w h sort_is cases g e =
     let args = h.args g e in
     let result = h.result g e in
     record {
       sorts = args;
-      sort = ap sort_of result ∙ sort_is;
+      sort = ap (sort_of s.pointer) result ∙ sort_in_file s (term_at s.terms at) ∙ sort_is;
       cases = cases ∙ (λ i. cases_of (args i) (sym result i));
       stays = (λ i. stays_in (sym args i) (result i)) ∙ h.stays;
     }

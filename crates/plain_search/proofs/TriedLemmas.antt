@@ -9,8 +9,9 @@ use Rattle.std.proofs.lemmas.List.{append_assoc, drop_more}
 use Rattle.bv_terms.specs.declared.value.Sort.{Sort}
 use Rattle.bv_terms.specs.declared.value.Sort.TheVariants as sort
 use Rattle.bv_terms.specs.Term.{Term}
-use Rattle.bv_terms.specs.Sorts.{HaveSorts, InputsFit, sort_of, same_sort}
-use Rattle.isel_spec.specs.File.{Operation, stays_in}
+use Rattle.bv_terms.specs.Sorts.{HaveSorts, same_sort}
+use Rattle.bv_terms.specs.WellSorted.{InputsFit, sort_of}
+use Rattle.isel_spec.specs.File.{File, Operation, stays_in}
 use Rattle.isel_spec.proofs.SpecLemmas.{InputsFit-from_sorts}
 use Rattle.pattern_core.specs.declared.pattern.Pattern.{Pattern}
 use Rattle.plain_search.specs.declared.cases.Case.{Case}
@@ -94,34 +95,36 @@ numbered_fit w tried args choices t is some stays n =
 -- ---- the rules of an operation
 
 -- the rules of an operation, where its result has another sort
-pub no_operation_rules : (w : Wanted) (op : ℕ) (o : Operation) (t : Term) (s : Sort) → result_in o.results ≡ t
-    → sort_of t ≡ Some s → same_sort w.sort s ≡ false → operation_rules w op o ≡ []
-no_operation_rules w op o t s is sorted other =
-    let test : option_map_or (same_sort w.sort) (sort_of (result_in o.results)) false ≡ false =
-    ap (λ u. option_map_or (same_sort w.sort) (sort_of u) false) is
+pub no_operation_rules : (f : File) (w : Wanted) (op : ℕ) (o : Operation) (t : Term) (s : Sort) → result_in o.results
+    ≡ t
+    → sort_of f.pointer t ≡ Some s → same_sort w.sort s ≡ false → operation_rules f w op o ≡ []
+no_operation_rules f w op o t s is sorted other =
+    let test : option_map_or (same_sort w.sort) (sort_of f.pointer (result_in o.results)) false ≡ false =
+    ap (λ u. option_map_or (same_sort w.sort) (sort_of f.pointer u) false) is
     ∙ ap (λ x. option_map_or (same_sort w.sort) x false) sorted ∙ other in
-    cond-false (option_map_or (same_sort w.sort) (sort_of (result_in o.results)) false) _ [] test
+    cond-false (option_map_or (same_sort w.sort) (sort_of f.pointer (result_in o.results)) false) _ [] test
 
 -- and where it has the sort that is wanted
-pub operation_rules_are : (w : Wanted) (op : ℕ) (o : Operation) (t : Term) (s : Sort) (args : List Sort)
-    → result_in o.results ≡ t → sort_of t ≡ Some s → same_sort w.sort s ≡ true → o.args ≡ args
-    → operation_rules w op o ≡ map (operation_pattern op)
+pub operation_rules_are : (f : File) (w : Wanted) (op : ℕ) (o : Operation) (t : Term) (s : Sort) (args : List Sort)
+    → result_in o.results ≡ t → sort_of f.pointer t ≡ Some s → same_sort w.sort s ≡ true → o.args ≡ args
+    → operation_rules f w op o ≡ map (operation_pattern op)
     (filter (term_agrees w.cases.items t) (tuples w.sorts.items args))
-operation_rules_are w op o t s args is sorted same takes =
-    let test : option_map_or (same_sort w.sort) (sort_of (result_in o.results)) false ≡ true =
-    ap (λ u. option_map_or (same_sort w.sort) (sort_of u) false) is
+operation_rules_are f w op o t s args is sorted same takes =
+    let test : option_map_or (same_sort w.sort) (sort_of f.pointer (result_in o.results)) false ≡ true =
+    ap (λ u. option_map_or (same_sort w.sort) (sort_of f.pointer u) false) is
     ∙ ap (λ x. option_map_or (same_sort w.sort) x false) sorted ∙ same in
-    cond-true (option_map_or (same_sort w.sort) (sort_of (result_in o.results)) false) _ [] test
+    cond-true (option_map_or (same_sort w.sort) (sort_of f.pointer (result_in o.results)) false) _ [] test
     ∙ (λ i. map (operation_pattern op) (filter (term_agrees w.cases.items (is i)) (tuples w.sorts.items (takes i))))
 
 -- one more operation
-pub rules_more : (w : Wanted) (ops : List Operation) (op : ℕ) (before after whole : List Pattern) → op < length ops
-    → ((o : Operation) → slice_get ops op ≡ Some o → after ≡ before ++ operation_rules w op o)
-    → before ++ rules_from w op (drop op ops) ≡ whole → after ++ rules_from w (op + 1) (drop (op + 1) ops) ≡ whole
-rules_more w ops op before after whole l adds so_far =
+pub rules_more : (f : File) (w : Wanted) (ops : List Operation) (op : ℕ) (before after whole : List Pattern)
+    → op < length ops
+    → ((o : Operation) → slice_get ops op ≡ Some o → after ≡ before ++ operation_rules f w op o)
+    → before ++ rules_from f w op (drop op ops) ≡ whole → after ++ rules_from f w (op + 1) (drop (op + 1) ops) ≡ whole
+rules_more f w ops op before after whole l adds so_far =
     let none : Operation = record { name = []; args = []; attrs = []; results = [] } in
     let o : Operation = get_or ops op none in
-    let rest : List Pattern = rules_from w (op + 1) (drop (op + 1) ops) in
-    let added : after ≡ before ++ operation_rules w op o = adds o (slice_get-get_or ops op none l) in
-    ap (λ ps. ps ++ rest) added ∙ append_assoc before (operation_rules w op o) rest
-    ∙ ap (λ os. before ++ rules_from w op os) (sym (drop_more ops op none l)) ∙ so_far
+    let rest : List Pattern = rules_from f w (op + 1) (drop (op + 1) ops) in
+    let added : after ≡ before ++ operation_rules f w op o = adds o (slice_get-get_or ops op none l) in
+    ap (λ ps. ps ++ rest) added ∙ append_assoc before (operation_rules f w op o) rest
+    ∙ ap (λ os. before ++ rules_from f w op os) (sym (drop_more ops op none l)) ∙ so_far

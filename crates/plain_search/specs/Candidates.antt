@@ -6,9 +6,10 @@ use Rattle.std.specs.Option.{option_map_or}
 use Rattle.bv_terms.specs.declared.value.Sort.{Sort}
 use Rattle.bv_terms.specs.declared.value.Sort.TheVariants as sort
 use Rattle.bv_terms.specs.Term.{Term}
-use Rattle.bv_terms.specs.Sorts.{same_sort, sort_of, HaveSorts}
+use Rattle.bv_terms.specs.Sorts.{same_sort, HaveSorts}
+use Rattle.bv_terms.specs.WellSorted.{sort_of}
 use Rattle.bv_terms.specs.Table.{term_in}
-use Rattle.isel_spec.specs.File.{Operation, Goal, stays_in}
+use Rattle.isel_spec.specs.File.{File, Operation, Goal, stays_in}
 use Rattle.pattern_core.specs.declared.pattern.Src.TheVariants.{Input, Out}
 use Rattle.pattern_core.specs.declared.pattern.Pattern.{Pattern}
 use Rattle.plain_search.specs.declared.cases.Case.{Case}
@@ -50,23 +51,23 @@ operation_pattern op ks =
 abbrev pub input_rules : Wanted → List Pattern
 input_rules w = map input_pattern (filter (input_agrees w.cases.items) (places w.sorts.items w.sort))
 
--- the patterns of one operation that give what is wanted
-abbrev pub operation_rules : Wanted → ℕ → Operation → List Pattern
-operation_rules w op o =
-    if option_map_or (same_sort w.sort) (sort_of (result_in o.results)) false
+-- the patterns of one operation of a file that give what is wanted
+abbrev pub operation_rules : File → Wanted → ℕ → Operation → List Pattern
+operation_rules f w op o =
+    if option_map_or (same_sort w.sort) (sort_of f.pointer (result_in o.results)) false
     then map (operation_pattern op)
     (filter (term_agrees w.cases.items (result_in o.results)) (tuples w.sorts.items o.args))
     else []
 
 -- the patterns of one node that give what is wanted, where these are the operations from that place on
-abbrev pub rules_from : Wanted → ℕ → List Operation → List Pattern
-rules_from w op [] = []
-rules_from w op (o ∷ os) = operation_rules w op o ++ rules_from w (op + 1) os
+abbrev pub rules_from : File → Wanted → ℕ → List Operation → List Pattern
+rules_from f w op [] = []
+rules_from f w op (o ∷ os) = operation_rules f w op o ++ rules_from f w (op + 1) os
 
--- the sorts and the cases of a goal
-pub record IsWanted (g : Goal) (w : Wanted) : Type 0 where
+-- the sorts and the cases of a goal of a file
+pub record IsWanted (f : File) (g : Goal) (w : Wanted) : Type 0 where
   pub sorts : w.sorts.items ≡ g.args
-  pub sort : sort_of (result_in g.results) ≡ Some w.sort
+  pub sort : sort_of f.pointer (result_in g.results) ≡ Some w.sort
   pub cases : w.cases.items ≡ cases_of g.args (result_in g.results)
   pub stays : stays_in g.args (result_in g.results) ≡ true
 

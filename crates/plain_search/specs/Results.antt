@@ -3,7 +3,8 @@ use Rattle.std.specs.Prelude.{◌≡◌, ◌<◌, ◌≤◌, List, length, sum_b
 use Rattle.bv_terms.specs.declared.op.TermId.{TermId}
 use Rattle.bv_terms.specs.declared.value.Sort.{Sort}
 use Rattle.bv_terms.specs.declared.value.Value.{Value}
-use Rattle.bv_terms.specs.Sorts.{InputsFit, width_of}
+use Rattle.bv_terms.specs.Sorts.{width_of}
+use Rattle.bv_terms.specs.WellSorted.{InputsFit}
 use Rattle.bv_terms.specs.Table.{Table, term_at}
 use Rattle.bv_terms.specs.Subterm.{IsTopological}
 use Rattle.plain_search.specs.declared.results.Evaluator.{Evaluator}

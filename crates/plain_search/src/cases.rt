@@ -1,7 +1,8 @@
 //! The goal's result at all inputs, and whether an input is the same there.
 
 ghost use Rattle.std.specs.Prelude.{◌≡◌, ℕ, ◌<◌, ◌≤◌, length, sum_by, IfOk, All};
-ghost use Rattle.bv_terms.specs.Sorts.{InputsFit, width_of};
+ghost use Rattle.bv_terms.specs.Sorts.{width_of};
+ghost use Rattle.bv_terms.specs.WellSorted.{InputsFit};
 ghost use Rattle.bv_terms.specs.Table.{term_at};
 ghost use Rattle.plain_search.specs.Cases.{inputs_numbered, cases_of, same_value, input_agrees};
 

@@ -61,7 +61,7 @@ fn wanted_by(
     requires searchable { IsSearchable (file spec.now) goal }
     requires room { length spec.now.terms.nodes ≤ length room.old }
     ensures wanted { IfOk result (λ wanted.
-        (g : Goal) → slice_get (file spec.now).goals goal ≡ Some g → IsWanted g wanted) }
+        (g : Goal) → slice_get (file spec.now).goals goal ≡ Some g → IsWanted (file spec.now) g wanted) }
     ensures tried { IfOk result IsTried }
 {
     let definition = spec.goal(goal);
@@ -189,7 +189,7 @@ fn add_operation_rules(
     requires tried { IsTried wanted.now }
     requires room { length spec.now.terms.nodes ≤ length room.old }
     ensures { OnOk result ((o : Operation) → slice_get (file spec.now).ops op ≡ Some o
-        → rules.new.items ≡ rules.old.items ++ operation_rules wanted.now op o) }
+        → rules.new.items ≡ rules.old.items ++ operation_rules (file spec.now) wanted.now op o) }
 {
     let definition = spec.op(op);
     let result = first(&definition.results);
@@ -218,7 +218,7 @@ fn operation_rules(
     requires plain { (o : Operation) → Contains (file spec.now).ops o → IsPlain o }
     requires tried { IsTried wanted.now }
     requires room { length spec.now.terms.nodes ≤ length room.old }
-    ensures { IfOk result (λ rules. rules.items ≡ rules_from wanted.now 0 (file spec.now).ops) }
+    ensures { IfOk result (λ rules. rules.items ≡ rules_from (file spec.now) wanted.now 0 (file spec.now).ops) }
 {
     let mut rules = Vec::new(alloc);
     for op in 0..spec.ops.len() {

@@ -2,7 +2,8 @@
 //! have few bits together, and else computed along the nodes of its subterms alone.
 
 ghost use Rattle.std.specs.Prelude.{◌≡◌, ℕ, ◌<◌, ◌≤◌, ◌^◌, length, map, sum_by, IfOk, All};
-ghost use Rattle.bv_terms.specs.Sorts.{InputsFit, HaveSorts, width_of};
+ghost use Rattle.bv_terms.specs.Sorts.{HaveSorts, width_of};
+ghost use Rattle.bv_terms.specs.WellSorted.{InputsFit};
 ghost use Rattle.bv_terms.specs.Term.{value};
 ghost use Rattle.bv_terms.specs.Table.{term_at};
 ghost use Rattle.plain_search.specs.Cases.{inputs_numbered, input_at, truth_table, term_agrees, table_agrees};
@@ -27,8 +28,6 @@ pub fn nodes_of(alloc: Global, terms: &Terms, at: TermId) -> Result<Vec<TermId>,
     requires { at.0 < length terms.now.nodes }
     ensures { IfOk result (λ nodes. AreNodesOf terms.now at nodes.items) }
 {
-    // That inputs which fit the term fit its subterms rests on the terms' table, as `len` tells it.
-    terms.len();
     terms.subterms(alloc, &[at])
 }
 

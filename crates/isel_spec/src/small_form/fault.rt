@@ -41,7 +41,8 @@ impl From<MakeFault> for FirstFault {
     fn from(fault: MakeFault) -> FirstFault {
         match fault {
             MakeFault::NoMemory => FirstFault::NoMemory,
-            MakeFault::Arity | MakeFault::Sorts { .. } | MakeFault::Index => FirstFault::Outside,
+            MakeFault::Arity | MakeFault::Sorts { .. } | MakeFault::Index | MakeFault::Width =>
+                FirstFault::Outside,
         }
     }
 }

@@ -45,11 +45,11 @@ fn body(
         (λ body. (trees : List Tree) (tree : Tree) →
         AllZip (Denotes bytes.now forest.now.items) args.now trees →
         Denotes bytes.now forest.now.items result_item tree →
-        IsBody terms.new (body_in subject trees tree) body.0 body.1)
+        IsBody terms.new (body_in terms.old.pointer subject trees tree) body.0 body.1)
         ((trees : List Tree) (tree : Tree) (body : List Binding × Term) →
         AllZip (Denotes bytes.now forest.now.items) args.now trees →
         Denotes bytes.now forest.now.items result_item tree →
-        body_in subject trees tree ≡ Some body → HasFewTerms (body.1 ∷ []) → ⊥) }
+        body_in terms.old.pointer subject trees tree ≡ Some body → HasFewTerms (body.1 ∷ []) → ⊥) }
 {
     let scope = scope(alloc, subject, bytes, forest, args)?;
     let at = term(alloc, bytes, forest, &scope, terms, result_item)?;

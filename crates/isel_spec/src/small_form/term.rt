@@ -51,8 +51,9 @@ fn leaf(scope: &NameMap<Sort>, word: &[u8]) -> Option<Op>
 fn make(terms: &mut Terms, op: Op, args: &[TermId]) -> Result<TermId, FirstFault>
     requires { All (λ a. a.0 < length terms.old.nodes) args.now }
     ensures keeps { KeepsTerms terms.old terms.new }
-    ensures tells { Tells result (IsTermOf terms.new (well_sorted (Apply op (operands (terms_of terms.old) args.now))))
-        (well_sorted (Apply op (operands (terms_of terms.old) args.now)) ≡ None) }
+    ensures tells { Tells result
+        (IsTermOf terms.new (well_sorted terms.old.pointer (Apply op (operands (terms_of terms.old) args.now))))
+        (well_sorted terms.old.pointer (Apply op (operands (terms_of terms.old) args.now)) ≡ None) }
 {
     match terms.make(op, args) {
         Ok(made) => Ok(made),
@@ -65,8 +66,9 @@ fn word_term(scope: &NameMap<Sort>, terms: &mut Terms, word: &[u8]) -> Result<Te
     requires { length scope.now ≤ 4 }
     ensures keeps { KeepsTerms terms.old terms.new }
     ensures tells { Tells result
-        (IsTermOf terms.new (option_and_then (λ op. well_sorted (Apply op End)) (leaf scope.now word.now)))
-        (option_and_then (λ op. well_sorted (Apply op End)) (leaf scope.now word.now) ≡ None) }
+        (IsTermOf terms.new (option_and_then (λ op. well_sorted terms.old.pointer (Apply op End))
+        (leaf scope.now word.now)))
+        (option_and_then (λ op. well_sorted terms.old.pointer (Apply op End)) (leaf scope.now word.now) ≡ None) }
 {
     match leaf(scope, word) {
         Some(op) => make(terms, op, &[]),
@@ -103,8 +105,9 @@ pub fn term(
     requires scope { length scope.now ≤ 4 }
     ensures keeps { KeepsTerms terms.old terms.new }
     ensures tells { Tells result
-        (λ at. (t : Tree) → Denotes bytes.now forest.now.items item t → IsTermOf terms.new (term_of scope.now t) at)
-        ((t : Tree) → Denotes bytes.now forest.now.items item t → term_of scope.now t ≡ None) }
+        (λ at. (t : Tree) → Denotes bytes.now forest.now.items item t
+        → IsTermOf terms.new (term_of terms.old.pointer scope.now t) at)
+        ((t : Tree) → Denotes bytes.now forest.now.items item t → term_of terms.old.pointer scope.now t ≡ None) }
     ensures within { IfOk result (λ at. at.0 < length terms.new.nodes) }
 {
     if let Some(word) = forest.atom(bytes, item) {

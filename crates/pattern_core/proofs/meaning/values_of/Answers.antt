@@ -1,7 +1,7 @@
 use Rattle.std.proofs.Common.{All, ◌∙◌, sym, subst}
 use Rattle.std.proofs.lemmas.Result.{IfOk-weaker}
 use Rattle.bv_terms.specs.declared.op.TermId.{TermId}
-use Rattle.bv_terms.specs.Sorts.{InputsFit}
+use Rattle.bv_terms.specs.WellSorted.{InputsFit}
 use Rattle.bv_terms.specs.Table.{term_at}
 use Rattle.bv_terms.specs.Eval.{IsValued}
 use Rattle.bv_terms.proofs.SubtermLemmas.{AreSubterms-fit}
@@ -11,8 +11,8 @@ use Rattle.pattern_core.proofs.meaning.values_of.Goals as goal
 pub eval_nodes-requires-clause-inputs : goal.eval_nodes-requires-clause-inputs
 eval_nodes-requires-clause-inputs c =
     let fit =
-    AreSubterms-fit c.args.terms.now c.len.ensures.table c.args.results.now c.in_ok-nodes.nodes.items
-    c.in_ok-nodes.ensures.exact c.requires.there c.args.env.now.values c.requires.inputs in
+    AreSubterms-fit c.args.terms.now c.args.results.now c.in_ok-nodes.nodes.items c.in_ok-nodes.ensures.exact
+    c.args.env.now.values c.requires.inputs in
     subst (All (λ (at : TermId). InputsFit c.args.env.now.values (term_at c.args.terms.now at)))
     (sym c.deref.ensures.value) fit
 

@@ -1,5 +1,5 @@
 use Rattle.std.proofs.Common.{◌≡◌, length, map, take, Some, slice_get}
-use Rattle.bv_terms.specs.Sorts.{sort_of}
+use Rattle.bv_terms.specs.WellSorted.{sort_of}
 use Rattle.bv_terms.specs.declared.op.TermId.{TermId}
 use Rattle.bv_terms.specs.Table.{term_at}
 use Rattle.isel_spec.specs.File.{Goal}
@@ -11,4 +11,4 @@ abbrev pub invariant-loop-place : goal.invariant-loop-place
 invariant-loop-place l =
     (g : Goal) → slice_get (file l.spec).goals l.goal ≡ Some g
     → map (source_sort (file l.spec) g l.nodes (length l.nodes)) (take l.place l.sources) ≡ map
-    (λ (at : TermId). sort_of (term_at l.spec.terms at)) (take l.place l.results)
+    (λ (at : TermId). sort_of l.spec.terms.pointer (term_at l.spec.terms at)) (take l.place l.results)

@@ -1,5 +1,6 @@
 use Rattle.std.proofs.Common.{ℕ, List, ◌<◌, sym, subst, map, length, All}
-use Rattle.bv_terms.specs.Sorts.{HaveSorts, InputsFit}
+use Rattle.bv_terms.specs.Sorts.{HaveSorts}
+use Rattle.bv_terms.specs.WellSorted.{InputsFit}
 use Rattle.bv_terms.specs.Table.{term_at}
 use Rattle.plain_search.specs.declared.cases.Case.{Case}
 use Rattle.plain_search.specs.Cases.{input_at}

@@ -3,7 +3,8 @@ use Rattle.std.proofs.lemmas.Bool.{eqb-true}
 use Rattle.std.proofs.lemmas.List.{append-nil, nil_from_length}
 use Rattle.std.proofs.lemmas.Result.{on_ok_weaker}
 use Rattle.bv_terms.specs.Table.{term_at}
-use Rattle.isel_spec.proofs.SpecLemmas.{IsSoundOp_at}
+use Rattle.isel_spec.specs.Spec.{file}
+use Rattle.isel_spec.proofs.SpecLemmas.{IsSoundOp_at, sort_in_file}
 use Rattle.pattern_core.specs.declared.pattern.Pattern.{Pattern}
 use Rattle.plain_search.specs.Candidates.{tuples, operation_pattern}
 use Rattle.plain_search.specs.Cases.{term_agrees}
@@ -29,8 +30,9 @@ returns-then-not-is_same c =
     c.op-definition.ensures.1 c.first-result.ensures in
     λ o there.
     let none =
-    no_operation_rules c.args.wanted.now c.args.op o
-    (term_at c.args.spec.now.terms c.first-result.result) c.sort.result (k.result o there) c.sort.ensures
+    no_operation_rules (file c.args.spec.now) c.args.wanted.now c.args.op o
+    (term_at c.args.spec.now.terms c.first-result.result) c.sort.result (k.result o there)
+    (sort_in_file c.args.spec.now (term_at c.args.spec.now.terms c.first-result.result) ∙ c.sort.ensures)
     (sym c.is_same.ensures ∙ c.if-not-is_same.true) in
     sym (ap (λ (ps : List Pattern). c.args.rules.now.items ++ ps) none ∙ append-nil c.args.rules.now.items)
 
@@ -43,9 +45,11 @@ returns-then-is_empty c =
     let are = c.in_ok-choices.ensures ∙ ap (λ ss. tuples ss c.as_slice-args.result.now) c.deref.ensures.value in
     λ o there.
     let rules =
-    operation_rules_are c.args.wanted.now c.args.op o
+    operation_rules_are (file c.args.spec.now) c.args.wanted.now c.args.op o
     (term_at c.args.spec.now.terms c.first-result.result) c.sort.result c.as_slice-args.result.now
-    (k.result o there) c.sort.ensures (sym c.is_same.ensures ∙ c.if-not-is_same.false) (k.args o there) in
+    (k.result o there)
+    (sort_in_file c.args.spec.now (term_at c.args.spec.now.terms c.first-result.result) ∙ c.sort.ensures)
+    (sym c.is_same.ensures ∙ c.if-not-is_same.false) (k.args o there) in
     let none =
     nil_from_length c.in_ok-choices.choices.items
     (sym c.in_ok-choices.choices.ok.0
@@ -93,9 +97,11 @@ returns c =
     let are = c.in_ok-choices.ensures ∙ ap (λ ss. tuples ss c.as_slice-args.result.now) c.deref.ensures.value in
     on_ok_weaker c.add_agreeing.result (λ added o there.
     let rules =
-    operation_rules_are c.args.wanted.now c.args.op o
+    operation_rules_are (file c.args.spec.now) c.args.wanted.now c.args.op o
     (term_at c.args.spec.now.terms c.first-result.result) c.sort.result c.as_slice-args.result.now
-    (k.result o there) c.sort.ensures (sym c.is_same.ensures ∙ c.if-not-is_same.false) (k.args o there) in
+    (k.result o there)
+    (sort_in_file c.args.spec.now (term_at c.args.spec.now.terms c.first-result.result) ∙ c.sort.ensures)
+    (sym c.is_same.ensures ∙ c.if-not-is_same.false) (k.args o there) in
     added ∙ ap (λ (ps : List Pattern). c.args.rules.now.items ++ ps)
     (ap (λ (xs : List (List ℕ)). map (operation_pattern c.args.op)
     (filter (term_agrees c.args.wanted.now.cases.items (term_at c.args.spec.now.terms c.first-result.result)) xs))

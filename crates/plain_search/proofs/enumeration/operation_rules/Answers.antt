@@ -9,5 +9,6 @@ pub loop-op-preserved : goal.loop-op-preserved
 loop-op-preserved c =
     let within : c.loop-op.op < length (file c.args.spec.now).ops =
     omega (arith, length-map c.args.spec.now.ops (operation c.args.spec.now.terms)) in
-    rules_more c.args.wanted.now (file c.args.spec.now).ops c.loop-op.op c.loop-op.rules.items _ _ within
+    rules_more (file c.args.spec.now) c.args.wanted.now (file c.args.spec.now).ops c.loop-op.op
+    c.loop-op.rules.items _ _ within
     c.in_ok-add_operation_rules.ensures c.loop-op.invariant

@@ -5,4 +5,5 @@ use Rattle.plain_search.proofs.enumeration.operation_rules.Given as goal
 
 abbrev pub invariant-loop-op : goal.invariant-loop-op
 invariant-loop-op l =
-    l.rules.items ++ rules_from l.wanted l.op (drop l.op (file l.spec).ops) ≡ rules_from l.wanted 0 (file l.spec).ops
+    l.rules.items ++ rules_from (file l.spec) l.wanted l.op (drop l.op (file l.spec).ops)
+    ≡ rules_from (file l.spec) l.wanted 0 (file l.spec).ops

@@ -1,7 +1,7 @@
 use Rattle.std.proofs.Common.{All, ◌<◌, length, ◌∙◌, map, ap, sym, ℕ, List, subst}
 use Rattle.bv_terms.specs.declared.value.Value.{Value}
 use Rattle.bv_terms.specs.Term.{value}
-use Rattle.bv_terms.specs.Sorts.{InputsFit}
+use Rattle.bv_terms.specs.WellSorted.{InputsFit}
 use Rattle.bv_terms.specs.Table.{term_at}
 use Rattle.plain_search.specs.declared.cases.Case.{Case}
 use Rattle.plain_search.specs.Cases.{input_at, same_value}

@@ -9,5 +9,5 @@ subterms-requires c = all_one (λ (r : TermId). r.0 < length c.args.terms.now.no
 
 pub returns : goal.returns
 returns c =
-    nodes_found c.args.terms.now c.args.at (λ v. v.items) c.subterms.result c.len.ensures.table c.requires
+    nodes_found c.args.terms.now c.args.at (λ v. v.items) c.subterms.result c.requires
     c.subterms.ensures.exact c.subterms.ensures.order c.subterms.ensures.results

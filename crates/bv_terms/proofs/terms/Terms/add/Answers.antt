@@ -1,5 +1,5 @@
 -- The node that is not there goes last, and what is kept stays true.
-use Rattle.std.proofs.Common.{◌≡◌}
+use Rattle.std.proofs.Common.{◌≡◌, arith}
 use Rattle.bv_terms.specs.Table.{table_with}
 use Rattle.bv_terms.specs.Node.{table_of, entry_of, IsTermTable}
 use Rattle.bv_terms.proofs.TermTableLemmas.{kept-added}
@@ -14,8 +14,8 @@ added c =
       padded = c.requires.padded;
       earlier = c.requires.earlier;
       sorted = c.requires.sorted;
-      new =
-          c.requires.new;
+      new = c.requires.new;
+      room = omega (arith, c.len-place.ensures.len);
     })
     c.insert.new.self.entries c.in_ok-insert.ensures.entries
 

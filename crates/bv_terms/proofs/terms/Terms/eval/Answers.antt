@@ -2,12 +2,15 @@
 use Rattle.std.proofs.Common.{◌∙◌, ◌<◌, All, length, sym, ap, subst, arith}
 use Rattle.std.proofs.lemmas.Option.{get_or_from_slice_get}
 use Rattle.bv_terms.specs.declared.op.TermId.{TermId}
-use Rattle.bv_terms.specs.Sorts.{HasSort, InputsFit}
+use Rattle.bv_terms.specs.Sorts.{HasSort}
+use Rattle.bv_terms.specs.WellSorted.{InputsFit}
 use Rattle.bv_terms.specs.Term.{value}
-use Rattle.bv_terms.specs.Table.{term_at}
+use Rattle.bv_terms.specs.Table.{term_at, IsTable}
 use Rattle.bv_terms.specs.Eval.{IsValued}
 use Rattle.bv_terms.proofs.TermLemmas.{value-sorted}
 use Rattle.bv_terms.proofs.SubtermLemmas.{entry-at}
+use Rattle.bv_terms.specs.Memory.{Plain}
+use Rattle.bv_terms.proofs.MemoryLemmas.{term-plain}
 use Rattle.bv_terms.proofs.EvalLemmas.{args-valued, IsFilled-more}
 use Rattle.bv_terms.proofs.terms.Terms.eval.Goals as goal
 
@@ -38,4 +41,10 @@ returns-clause-sorted c = λ s sorted.
     subst (HasSort s) (sym
     (get_or_from_slice_get c.loop-place.room c.args.at.0 _ _
     (c.loop-place.invariant c.args.at.0 (omega arith) c.requires.inputs)))
-    (value-sorted c.args.env.now.values _ s sorted c.requires.inputs)
+    (value-sorted c.args.self.now.pointer c.args.env.now.values _ s sorted c.requires.inputs)
+
+pub returns-clause-thing : goal.returns-clause-thing
+returns-clause-thing c =
+    term-plain c.args.self.now (subst IsTable c.self.view_is c.self.invariant.table) c.args.env.now.values c.args.at
+    c.requires.there c.requires.inputs
+    ∙ ap Plain (sym (returns-clause-value c))

@@ -1,6 +1,6 @@
 use Rattle.std.proofs.Common.{◌≡◌, ◌<◌, ℕ, Some, slice_get}
 use Rattle.bv_terms.specs.Term.{value}
-use Rattle.bv_terms.specs.Sorts.{InputsFit}
+use Rattle.bv_terms.specs.WellSorted.{InputsFit}
 use Rattle.bv_terms.specs.Table.{term_in, terms_of}
 use Rattle.bv_terms.proofs.terms.Terms.eval.Given as goal
 

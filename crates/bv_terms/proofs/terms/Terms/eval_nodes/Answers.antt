@@ -4,7 +4,7 @@ use Rattle.std.proofs.lemmas.List.{take_more}
 use Rattle.std.proofs.lemmas.List.Elements.{All-contains, All-weaker}
 use Rattle.std.proofs.lemmas.Option.{slice_get-get_or}
 use Rattle.bv_terms.specs.declared.op.TermId.{TermId}
-use Rattle.bv_terms.specs.Sorts.{InputsFit}
+use Rattle.bv_terms.specs.WellSorted.{InputsFit}
 use Rattle.bv_terms.specs.Term.{value}
 use Rattle.bv_terms.specs.Table.{term_at}
 use Rattle.bv_terms.specs.Eval.{IsValued}

@@ -3,7 +3,7 @@ use Rattle.std.proofs.Common.{◌≡◌, ◌<◌, Some, IfOk, length, slice_get,
 use Rattle.std.proofs.lemmas.Result.{IfOk-weaker}
 use Rattle.bv_terms.specs.declared.op.TermId.{TermId}
 use Rattle.bv_terms.specs.Term.{Apply}
-use Rattle.bv_terms.specs.Sorts.{sort_of}
+use Rattle.bv_terms.specs.WellSorted.{sort_of}
 use Rattle.bv_terms.specs.Table.{Entry, Table, operands, terms_of, term_at, IsTable, Makes}
 use Rattle.bv_terms.specs.Node.{entry_of}
 use Rattle.bv_terms.proofs.TableLemmas.{term_at-node}
@@ -34,7 +34,7 @@ add-requires-clause-sorted c =
     let seen = seen-as c.args.self.now
     (record { op = c.args.op; args = c.args.args.now }) c.in_ok-sort.sort c.new-node.result
     c.in_ok-sort.ensures.sort c.new-node.ensures in
-    subst (λ (e : Entry). sort_of (Apply e.op (operands (terms_of c.args.self.now) e.args)) ≡ Some c.in_ok-sort.sort)
+    subst (λ (e : Entry). sort_of c.args.self.now.pointer (Apply e.op (operands (terms_of c.args.self.now) e.args)) ≡ Some c.in_ok-sort.sort)
     (sym seen) c.in_ok-sort.ensures.sort
 
 pub add-requires-clause-new : goal.add-requires-clause-new
@@ -72,7 +72,7 @@ returns-in-Some-clause-term c =
     (sym c.in-Some.ensures.index) ∙ ap Some seen)
 
 pub returns-in-Some-clause-sort : goal.returns-in-Some-clause-sort
-returns-in-Some-clause-sort c = ap sort_of (returns-in-Some-clause-term c)
+returns-in-Some-clause-sort c = ap (sort_of c.args.self.now.pointer) (returns-in-Some-clause-term c)
 
 pub returns-in-None-clause-made : goal.returns-in-None-clause-made
 returns-in-None-clause-made c =
@@ -106,4 +106,4 @@ returns-in-None-clause-term c =
     (c.add.ensures.place, c.add.ensures.added, c.add.ensures.err))
 
 pub returns-in-None-clause-sort : goal.returns-in-None-clause-sort
-returns-in-None-clause-sort c = IfOk-weaker c.add.result _ _ (λ id e. ap sort_of e) (returns-in-None-clause-term c)
+returns-in-None-clause-sort c = IfOk-weaker c.add.result _ _ (λ id e. ap (sort_of c.args.self.now.pointer) e) (returns-in-None-clause-term c)

@@ -9,5 +9,6 @@ decreases-term l = length l.forest.now.items - l.item
 abbrev pub invariant-loop-argument : goal.invariant-loop-argument
 invariant-loop-argument l = record {
   grown : KeepsTerms l.fn.terms l.terms;
-  read : HasOperands l.scope l.bytes l.forest.items l.arguments l.argument-index l.terms l.args.items;
+  read : HasOperands l.fn.terms.pointer l.scope l.bytes l.forest.items l.arguments l.argument-index l.terms
+      l.args.items;
 }

@@ -10,7 +10,8 @@ returns-in-Ok-clause-tells c =
       within = c.in-Ok.ensures.within;
       term =
           rw (sym c.in-Ok.ensures.term)
-          (well_sorted-some _ (term_at-sorted _ c.in-Ok.ensures.table _ c.in-Ok.ensures.within));
+          (well_sorted-some _ _ (term_at-sorted _ _ c.in-Ok.ensures.extends.pointer c.in-Ok.ensures.table _
+          c.in-Ok.ensures.within));
     }
 
 pub returns-in-Err : goal.returns-in-Err

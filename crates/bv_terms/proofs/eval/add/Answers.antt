@@ -1,6 +1,0 @@
-use Rattle.std.proofs.Common.{◌+◌, ◌∙◌}
-use Rattle.bv_terms.proofs.WordLemmas.{bits-word}
-use Rattle.bv_terms.proofs.eval.add.Goals as goal
-
-pub returns : goal.returns
-returns c = λ narrow. c.bits.ensures narrow ∙ bits-word c.args.width (c.args.s + c.args.t) narrow

@@ -1,5 +1,0 @@
-use Rattle.bv_terms.proofs.WordLemmas.{bits-masked}
-use Rattle.bv_terms.proofs.eval.bits.Goals as goal
-
-pub returns : goal.returns
-returns c = λ narrow. bits-masked c.args.width c.args.number c.mask.result narrow c.mask.ensures

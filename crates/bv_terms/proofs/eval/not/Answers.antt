@@ -1,6 +1,0 @@
-use Rattle.std.proofs.Common.{◌∙◌}
-use Rattle.bv_terms.proofs.WordLemmas.{bits-not}
-use Rattle.bv_terms.proofs.eval.not.Goals as goal
-
-pub returns : goal.returns
-returns c = λ narrow fits. c.bits.ensures narrow ∙ bits-not c.args.width c.args.s narrow fits
