@@ -17,7 +17,7 @@ use collections::Seq;
 use std::alloc::{AllocError, Global};
 
 /// The clause that is learnt from a conflict.
-#[derive(Debug, Drop)]
+#[derive(Drop)]
 pub(crate) struct Learnt {
     /// The derivation of the clause.
     pub chain: Chain,

@@ -17,7 +17,7 @@ const LARGEST: u64 = 1 << 40;
 const SCALE: u64 = 1 << 30;
 
 /// A score for each variable.
-#[derive(Debug, Drop)]
+#[derive(Drop)]
 pub(crate) struct Scores {
     activity: Vec<u64>,
     /// What the next conflict adds.

@@ -12,7 +12,7 @@ use cnf_core::{Clause, Lit};
 use std::alloc::AllocError;
 
 /// The status of a clause under the true literals.
-#[derive(Clone, Copy, Debug)]
+#[derive(Clone, Copy)]
 pub(crate) enum ClauseStatus {
     /// This literal is true.
     Satisfied(Lit),
@@ -67,7 +67,7 @@ fn status_by_blocker(trail: &Trail, clause: &Clause, blocker: Lit) -> ClauseStat
 }
 
 /// What one pass over all clauses came to.
-#[derive(Clone, Copy, Debug)]
+#[derive(Clone, Copy)]
 enum Progress {
     /// The clause of that number is falsified.
     Conflict(usize),

@@ -35,7 +35,7 @@ pub enum Answer {
 
 /// The state of a search: the clauses, those of the formula and then the learnt ones, a blocker for each, and the
 /// chains of the learnt ones.
-#[derive(Debug, Drop)]
+#[derive(Drop)]
 pub(crate) struct Search {
     clauses: Vec<Clause>,
     blockers: Vec<Lit>,

@@ -13,7 +13,7 @@ use std::alloc::{AllocError, Global};
 use std::marker::Model;
 
 /// The true literals, in the order of their assignment.
-#[derive(Debug, Drop)]
+#[derive(Drop)]
 pub(crate) struct Trail {
     lits: Vec<Lit>,
     /// For each literal the number of the clause that forced it; none for a decision.

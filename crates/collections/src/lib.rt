@@ -12,6 +12,3 @@ mod seq;
 
 pub use name_map::NameMap;
 pub use seq::Seq;
-
-#[cfg(test)]
-mod tests;

@@ -18,6 +18,3 @@ pub use reading::{FILE_LIMIT, ReadAllFault, read_all};
 pub use real::{RealFiles, RealOut};
 pub use traits::{Failed, Files, Sink};
 pub use writing::put_all;
-
-#[cfg(test)]
-mod tests;

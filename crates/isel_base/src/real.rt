@@ -1,7 +1,7 @@
 //! The files and streams of the system. They are trusted, and tell no bytes; each counts its failures,
 //! and a count that stands at its last value stays there.
 
-ghost use Rattle.std.specs.Prelude.{None, IfOk, ◌≤◌, length, false};
+ghost use Rattle.std.specs.Prelude.{◌≡◌, None, IfOk, ◌≤◌, length, false};
 
 use crate::traits::{Failed, Files, Sink};
 use std::io::{Read, Seek, SeekFrom, Write};
@@ -12,13 +12,20 @@ use std::{fs, io};
 #[derive(Drop)]
 pub struct RealFiles<'a, R> {
     rt: &'a R,
-    pub(crate) faults: u64,
+    faults: u64,
 }
 
 impl<'a, R: std::rt::Files> RealFiles<'a, R> {
     /// The files that the runtime reaches.
     pub fn new(rt: &'a R) -> RealFiles<'a, R> {
         RealFiles { rt, faults: 0 }
+    }
+
+    /// How many reads have failed, of all names together.
+    pub fn faults(&self) -> u64
+        ensures { result ≡ self.now.faults }
+    {
+        self.faults
     }
 }
 
@@ -55,13 +62,20 @@ impl<R: std::rt::Files> Files for RealFiles<'_, R> {
 #[derive(Drop)]
 pub struct RealOut<W> {
     to: W,
-    pub(crate) faults: u64,
+    faults: u64,
 }
 
 impl<W: Write> RealOut<W> {
     /// The stream that the writer writes.
     pub fn new(to: W) -> RealOut<W> {
         RealOut { to, faults: 0 }
+    }
+
+    /// How many writes have failed.
+    pub fn faults(&self) -> u64
+        ensures { result ≡ self.now.faults }
+    {
+        self.faults
     }
 }
 

@@ -11,6 +11,3 @@ mod words;
 
 pub use program::run_here;
 pub use words::{Command, parse};
-
-#[cfg(test)]
-mod tests;

@@ -27,7 +27,7 @@ use std::alloc::{AllocError, Global};
 use std::slice;
 
 /// Why no library is written.
-#[derive(Clone, Copy, Debug, PartialEq, Eq)]
+#[derive(Clone, Copy)]
 enum Refusal {
     /// The file is not of the form.
     Outside,

@@ -1,0 +1,11 @@
+//! Tests of public calls on terms and lists, with ample memory; there is no code. They stand here, since a crate
+//! with tests of its own is proved once more for them.
+//!
+//! - `tests/grafts`: a term of one table made in another
+//! - `tests/lists`: faults and forests of small texts
+//! - `tests/operators`: values of each operator by the standard
+//! - `tests/terms`: faults of `make`, and the nodes of subterms with their values
+#![tactic(auto)]
+
+#[cfg(test)]
+mod tests;

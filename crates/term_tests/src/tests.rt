@@ -1,0 +1,6 @@
+//! A module for each subject.
+
+mod grafts;
+mod lists;
+mod operators;
+mod terms;
