@@ -5,6 +5,7 @@
 //! - `tests/lists`: faults and forests of small texts
 //! - `tests/operators`: values of each operator by the standard
 //! - `tests/terms`: faults of `make`, and the nodes of subterms with their values
+//! - `tests/written`: operators of a term's text: over what they may stand, and their values
 #![tactic(auto)]
 
 #[cfg(test)]

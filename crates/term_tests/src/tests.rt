@@ -4,3 +4,4 @@ mod grafts;
 mod lists;
 mod operators;
 mod terms;
+mod written;

@@ -1,7 +1,7 @@
 //! Tests: values of each operator by the standard's formulas, written down as numbers: all pairs of three bits, and
 //! the edges of narrow and wide bit-vectors.
 
-use crate::tests::terms::{env_of, table_of, third_value};
+use crate::tests::terms::{env_of, table_of, value_of};
 use bv_terms::*;
 use std::alloc::Global;
 use std::test::Fail;
@@ -170,7 +170,7 @@ const RESIZED: [(Op, u64, u8, u64); 8] = [
 ];
 
 /// The number of a value, where it has the width or is a truth value.
-fn number_of(value: Value, wanted: u8) -> Option<u64> {
+pub(crate) fn number_of(value: Value, wanted: u8) -> Option<u64> {
     match value {
         Value::Bool(truth) => Some(u64::from(truth)),
         Value::Bits { width, number } => (width == wanted).then_some(number),
@@ -187,7 +187,7 @@ fn value_at(
 ) -> Result<Option<u64>, MakeFault> {
     let terms = table_of(alloc, op, width)?;
     let env = env_of(alloc, width, numbers).map_err(|_| MakeFault::NoMemory)?;
-    Ok(third_value(&terms, &env).and_then(|value| number_of(value, wanted)))
+    Ok(value_of(&terms, TermId(2), &env).and_then(|value| number_of(value, wanted)))
 }
 
 /// Whether an operator has the values that these digits tell.

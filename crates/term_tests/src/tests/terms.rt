@@ -273,13 +273,17 @@ pub(crate) fn table_of(alloc: Global, op: Op, width: u8) -> Result<Terms, MakeFa
     Ok(terms)
 }
 
-/// The value of node 2 of three, where the inputs fit.
-pub(crate) fn third_value(terms: &Terms, env: &Env) -> Option<Value> {
-    let mut room = [Value::Bool(false); 3];
-    if terms.len() != 3 || !inputs_fit(terms, env) {
+/// The most nodes of a table of these tests.
+const MOST_NODES: usize = 64;
+
+/// The value of a node's term, where the node is there and the inputs fit.
+pub(crate) fn value_of(terms: &Terms, at: TermId, env: &Env) -> Option<Value> {
+    let mut room = [Value::Bool(false); MOST_NODES];
+    let len = terms.len();
+    if len > MOST_NODES || at.0 >= len || !inputs_fit(terms, env) {
         return None;
     }
-    Some(terms.eval(TermId(2), env, &mut room))
+    Some(terms.eval(at, env, &mut room))
 }
 
 /// Nodes 0, 2 and 4 are those of the last one's subterms; 1 and 3 stand between and are none.

@@ -1,0 +1,4 @@
+pub mod SignedLemmas
+pub mod SlotLemmas
+pub mod BuildLemmas
+pub mod WrittenLemmas

@@ -1,0 +1,4 @@
+pub mod Operator
+pub mod Written
+pub mod Build
+pub mod Words
