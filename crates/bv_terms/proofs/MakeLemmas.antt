@@ -85,22 +85,27 @@ sort_told : (q : Option MakeFault) (s : Sort) (r : Result Sort MakeFault) → Ma
 sort_told None s r h = subst (λ r. IfOk r (λ t. Some s ≡ Some t)) (sym h) refl
 sort_told (Some g) s r h = subst (λ r. IfOk r (λ t. None ≡ Some t)) (sym h) tt
 
-pub fault-from_sorts : (table : Table) (p : ℕ) → p ≡ table.pointer → (o : Op) (args : List TermId) (ss : List Sort) (r : Result Sort MakeFault)
+pub fault-from_sorts : (table : Table) (p : ℕ) → p ≡ table.pointer → (o : Op) (args : List TermId) (ss : List Sort)
+    (r : Result Sort MakeFault)
     → sorts_of table.pointer (operands (terms_of table) args) ≡ Some ss
     → MatchOption (refusal p o ss) (r ≡ Ok (result_sort (signature o).result ss)) (λ f. r ≡ Err f)
     → MatchResult r (λ _. make_refusal table o args ≡ None) (λ f. make_refusal table o args ≡ Some f)
 fault-from_sorts table p same o args ss r e told =
-    let h = subst (λ p. MatchOption (refusal p o ss) (r ≡ Ok (result_sort (signature o).result ss)) (λ f. r ≡ Err f)) same told
+    let h = subst (λ p. MatchOption (refusal p o ss) (r ≡ Ok (result_sort (signature o).result ss)) (λ f. r ≡ Err f))
+    same told
     in
-    subst (λ q. MatchResult r (λ _. q ≡ None) (λ f. q ≡ Some f)) (sym (ap (option_and_then (refusal table.pointer o)) e))
+    subst (λ q. MatchResult r (λ _. q ≡ None) (λ f. q ≡ Some f))
+    (sym (ap (option_and_then (refusal table.pointer o)) e))
     (fault_told (refusal table.pointer o ss) (result_sort (signature o).result ss) r h)
 
-pub sort-from_sorts : (table : Table) (p : ℕ) → p ≡ table.pointer → (o : Op) (args : List TermId) (ss : List Sort) (r : Result Sort MakeFault)
+pub sort-from_sorts : (table : Table) (p : ℕ) → p ≡ table.pointer → (o : Op) (args : List TermId) (ss : List Sort)
+    (r : Result Sort MakeFault)
     → sorts_of table.pointer (operands (terms_of table) args) ≡ Some ss
     → MatchOption (refusal p o ss) (r ≡ Ok (result_sort (signature o).result ss)) (λ f. r ≡ Err f)
     → IfOk r (λ s. sort_of table.pointer (Apply o (operands (terms_of table) args)) ≡ Some s)
 sort-from_sorts table p same o args ss r e told =
-    let h = subst (λ p. MatchOption (refusal p o ss) (r ≡ Ok (result_sort (signature o).result ss)) (λ f. r ≡ Err f)) same told
+    let h = subst (λ p. MatchOption (refusal p o ss) (r ≡ Ok (result_sort (signature o).result ss)) (λ f. r ≡ Err f))
+    same told
     in
     subst (λ q. IfOk r (λ s. q ≡ Some s)) (sym (sort_of-apply table.pointer o (operands (terms_of table) args) ss e))
     (sort_told (refusal table.pointer o ss) (result_sort (signature o).result ss) r h)
@@ -121,7 +126,8 @@ pub refused_past_arity : (table : Table) → IsTable table → (o : Op) (args : 
 refused_past_arity table is_table o args h long =
     let sorts = sorts_of-operands table is_table args h in
     ap (option_and_then (refusal table.pointer o)) sorts.1
-    ∙ arity_fault table.pointer o sorts.0 _ (not_equal (length sorts.0) (arity o) (omega (arith, sorts.2, arity-at_most o)))
+    ∙ arity_fault table.pointer o sorts.0 _
+    (not_equal (length sorts.0) (arity o) (omega (arith, sorts.2, arity-at_most o)))
 
 -- ---- the arguments of an operation that stands over nodes
 
@@ -177,7 +183,8 @@ pub seen-as : (table : Table) (e : Entry) (s : Sort) (n : Node)
 seen-as table e s n sorted made = ap entry_of made ∙ entry_of-node_of e (arity-of_args table e.op e.args s sorted)
 
 pub padded-as : (table : Table) (e : Entry) (s : Sort) (n : Node)
-    → sort_of table.pointer (Apply e.op (operands (terms_of table) e.args)) ≡ Some s → n ≡ node_of e → n ≡ node_of (entry_of n)
+    → sort_of table.pointer (Apply e.op (operands (terms_of table) e.args)) ≡ Some s → n ≡ node_of e
+    → n ≡ node_of (entry_of n)
 padded-as table e s n sorted made = made ∙ ap node_of (sym (seen-as table e s n sorted made))
 
 -- an operation over nodes is well-sorted exactly where it is not refused

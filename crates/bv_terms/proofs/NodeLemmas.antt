@@ -1,5 +1,6 @@
 -- Equality of nodes is equality of operation and arguments.
-use Rattle.std.proofs.Common.{◌≡◌, Bool, true, false, List, [], ◌∷◌, eqb, ◌&&◌, ℕ, inl, inr, refl, ap, ◌∙◌, rules, tests, Decides}
+use Rattle.std.proofs.Common.{◌≡◌, Bool, true, false, List, [], ◌∷◌, eqb, ◌&&◌, ℕ, inl, inr, refl, ap, ◌∙◌}
+use Rattle.std.proofs.Common.{rules, tests, Decides}
 use Rattle.bv_terms.specs.contracts.op.Op.{the_type, as_values}
 use denote.Struct.Field.{Field}
 use denote.Struct.Values.{Values}
@@ -65,7 +66,8 @@ one_number x y h = ap (λ (n : ℕ). (n, tt)) ((Decides-eqb x.0 y.0).0 h)
 two_numbers : (x y : ℕ × (ℕ × Unit {0})) → (eqb x.0 y.0 && eqb x.1.0 y.1.0) ≡ true → x ≡ y
 two_numbers x y h =
     let parts = and_parts (eqb x.0 y.0) (eqb x.1.0 y.1.0) h in
-    ap (λ (n : ℕ). (n, x.1)) ((Decides-eqb x.0 y.0).0 parts.0) ∙ ap (λ (n : ℕ). (y.0, (n, tt))) ((Decides-eqb x.1.0 y.1.0).0 parts.1)
+    ap (λ (n : ℕ). (n, x.1)) ((Decides-eqb x.0 y.0).0 parts.0)
+    ∙ ap (λ (n : ℕ). (y.0, (n, tt))) ((Decides-eqb x.1.0 y.1.0).0 parts.1)
 
 no_fields : (x y : Unit {0}) → true ≡ true → x ≡ y
 no_fields x y h = refl

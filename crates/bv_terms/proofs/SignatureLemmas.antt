@@ -132,7 +132,8 @@ fitting_past p o ss l None e h =
 pub IsFitting-of : (p : ℕ) (o : Op) (ss : List Sort) → refusal p o ss ≡ None → IsFitting p o ss
 IsFitting-of p o ss h =
     let sig = signature o in
-    let parts = unless_true (eqb (length ss) (arity o)) (fault_of p sig ss (misfit p sig.index sig.slots ss)) fault.Arity h
+    let parts = unless_true (eqb (length ss) (arity o)) (fault_of p sig ss (misfit p sig.index sig.slots ss))
+    fault.Arity h
     in
     fitting_past p o ss ((Decides-eqb (length ss) (arity o)).0 parts.0) (misfit p sig.index sig.slots ss) refl parts.1
 

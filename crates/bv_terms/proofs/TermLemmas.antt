@@ -358,7 +358,8 @@ op_value-sorted p inputs op.Concat ss vs f i h =
       subst (λ top. m * 2 ^ v + n < top) (sym (pow-add 2 w v)) (joined_below (2 ^ w) (2 ^ v) m n l k),
     )) p Free ss vs f.fit h
 op_value-sorted p inputs (op.Extract high low) ss vs f i h =
-    on_word (Gives inputs (op.Extract high low)) (λ w n l. bits-sorted (high - low + 1) _) p (Slice high low) ss vs f.fit h
+    on_word (Gives inputs (op.Extract high low)) (λ w n l. bits-sorted (high - low + 1) _) p (Slice high low) ss vs
+    f.fit h
 op_value-sorted p inputs (op.ZeroExtend by) ss vs f i h =
     on_word (Gives inputs (op.ZeroExtend by))
     (λ w n l. (refl, subst (λ top. n < top) (sym (pow-add 2 w by)) (below_more n (2 ^ w) (2 ^ by) l (pow_pos by))))

@@ -1,6 +1,8 @@
 -- What an operation takes and gives: its argument slots, what its own numbers have to meet, and its result's sort.
--- Source: SMT-LIB 2.6, theories Core and FixedSizeBitVectors, logic QF_BV. The memory operations are this project's own.
-use Rattle.std.specs.Prelude.{ℕ, ◌+◌, ◌-◌, ◌*◌, ◌^◌, List, [], ◌∷◌, length, Option, Some, None, position, zip, slice_get}
+-- Source: SMT-LIB 2.6, theories Core and FixedSizeBitVectors, logic QF_BV. The memory operations are this project's
+-- own.
+use Rattle.std.specs.Prelude.{ℕ, ◌+◌, ◌-◌, ◌*◌, ◌^◌, List, [], ◌∷◌, length, Option, Some, None, position, zip}
+use Rattle.std.specs.Prelude.{slice_get}
 use Rattle.std.specs.Prelude.{unwrap_or, Bool, true, false, not, ◌&&◌, ◌||◌, ◌==◌, nat_lt, nat_le, if◌then◌else◌}
 use Rattle.std.specs.Option.{option_map_or}
 use Rattle.bv_terms.specs.declared.op.Op.{Op}
@@ -8,7 +10,8 @@ use Rattle.bv_terms.specs.declared.op.Op.TheVariants as op
 use Rattle.bv_terms.specs.declared.op.MakeFault.{MakeFault}
 use Rattle.bv_terms.specs.declared.op.MakeFault.TheVariants as fault
 use Rattle.bv_terms.specs.declared.signature.Slot.{Slot}
-use Rattle.bv_terms.specs.declared.signature.Slot.TheVariants.{Truth, Vector, NoMemory, SameAs, Memory, Pointer, Accessed}
+use Rattle.bv_terms.specs.declared.signature.Slot.TheVariants.{Truth, Vector, NoMemory, SameAs, Memory, Pointer}
+use Rattle.bv_terms.specs.declared.signature.Slot.TheVariants.{Accessed}
 use Rattle.bv_terms.specs.declared.signature.IndexRule.{IndexRule}
 use Rattle.bv_terms.specs.declared.signature.IndexRule.TheVariants.{Free, Sized, Number, Slice, Access}
 use Rattle.bv_terms.specs.declared.signature.ResultRule.{ResultRule}

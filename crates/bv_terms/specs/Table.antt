@@ -55,7 +55,8 @@ pub record IsTable (table : Table) : Type 0 where
 
 -- why an operation cannot stand over these nodes, where it cannot
 abbrev pub make_refusal : Table → Op → List TermId → Option MakeFault
-make_refusal table o args = option_and_then (refusal table.pointer o) (sorts_of table.pointer (operands (terms_of table) args))
+make_refusal table o args =
+    option_and_then (refusal table.pointer o) (sorts_of table.pointer (operands (terms_of table) args))
 
 -- the table with a node at its end
 abbrev pub table_with : Table → Entry → Table

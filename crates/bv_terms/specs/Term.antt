@@ -27,8 +27,8 @@ same_value (val.Bool p) (val.Bool q) = beq p q
 same_value (val.Bits w s) (val.Bits v t) = w == v && s == t
 same_value _ _ = false
 
--- an operation at the values of its arguments, where the inputs have these values, in the order of the standard's lists:
--- Core, FixedSizeBitVectors, QF_BV
+-- an operation at the values of its arguments, where the inputs have these values, in the order of the standard's
+-- lists: Core, FixedSizeBitVectors, QF_BV
 abbrev pub op_value : List Value → Op → List Value → Value
 op_value inputs (op.Input k s) [] = unwrap_or (slice_get inputs k) (val.Bool false)
 op_value inputs (op.Bool p) [] = val.Bool p

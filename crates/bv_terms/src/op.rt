@@ -112,8 +112,8 @@ impl Op {
         self.signature().slots.len()
     }
 
-    /// The sort of the operation over arguments of these sorts, or why it cannot stand over them, where a pointer has so
-    /// many bits.
+    /// The sort of the operation over arguments of these sorts, or why it cannot stand over them, where a pointer has
+    /// so many bits.
     pub(crate) fn sort_over(&self, pointer: u8, sorts: &[Sort]) -> Result<Sort, MakeFault>
         ensures { MatchOption (refusal pointer self.now sorts.now)
             (result ≡ Ok (result_sort (signature self.now).result sorts.now)) (λ f. result ≡ Err f) }

@@ -7,7 +7,8 @@ ghost use Rattle.bv_terms.specs.declared.value.Sort.{Sort};
 ghost use Rattle.bv_terms.specs.Term.{Apply, value};
 ghost use Rattle.bv_terms.specs.Sorts.{HasSort};
 ghost use Rattle.bv_terms.specs.WellSorted.{sort_of, InputsFit};
-ghost use Rattle.bv_terms.specs.Table.{Entry, operands, terms_of, term_at, make_refusal, table_with, Extends, IsTable, Makes};
+ghost use Rattle.bv_terms.specs.Table.{Entry, operands, terms_of, term_at, make_refusal, table_with};
+ghost use Rattle.bv_terms.specs.Table.{Extends, IsTable, Makes};
 ghost use Rattle.bv_terms.specs.Subterm.{AreSubterms, IsTopological, keys_with};
 ghost use Rattle.bv_terms.specs.Eval.{IsValued};
 ghost use Rattle.bv_terms.specs.Memory.{thing, Plain};
@@ -111,7 +112,8 @@ impl Terms {
         ensures kept { (at : TermId) → at.0 < length self.old.nodes → term_at self.new at ≡ term_at self.old at }
         ensures term { IfOk result (λ id. term_at self.new id ≡ Apply op (operands (terms_of self.old) args.now)) }
         ensures sort { IfOk result
-            (λ id. sort_of self.old.pointer (term_at self.new id) ≡ sort_of self.old.pointer (Apply op (operands (terms_of self.old) args.now))) }
+            (λ id. sort_of self.old.pointer (term_at self.new id)
+            ≡ sort_of self.old.pointer (Apply op (operands (terms_of self.old) args.now))) }
     {
         let sort = self.sort_over(op, args)?;
         let node = Node::new(op, args);
@@ -200,7 +202,8 @@ impl Terms {
         requires args { All (λ a. a.0 < length self.now.nodes) args.now }
         ensures fault { MatchResult result
             (λ _. make_refusal self.now op args.now ≡ None) (λ f. make_refusal self.now op args.now ≡ Some f) }
-        ensures sort { IfOk result (λ s. sort_of self.now.pointer (Apply op (operands (terms_of self.now) args.now)) ≡ Some s) }
+        ensures sort { IfOk result
+            (λ s. sort_of self.now.pointer (Apply op (operands (terms_of self.now) args.now)) ≡ Some s) }
     {
         match *args {
             [] => op.sort_over(self.pointer, &[]),
@@ -220,7 +223,8 @@ impl Terms {
     fn add(&mut self, node: Node, sort: Sort) -> Result<TermId, MakeFault>
         requires padded { node ≡ node_of (entry_of node) }
         requires earlier { All (λ a. a.0 < length self.old.nodes) (entry_of node).args }
-        requires sorted { sort_of self.old.pointer (Apply node.op (operands (terms_of self.old) (entry_of node).args)) ≡ Some sort }
+        requires sorted { sort_of self.old.pointer (Apply node.op (operands (terms_of self.old) (entry_of node).args))
+            ≡ Some sort }
         requires new { ¬ Contains self.old.nodes (entry_of node) }
         ensures place { IfOk result (λ id. id.0 ≡ length self.old.nodes) }
         ensures added { OnOk result (self.new ≡ table_with self.old (entry_of node)) }

@@ -34,7 +34,8 @@ add-requires-clause-sorted c =
     let seen = seen-as c.args.self.now
     (record { op = c.args.op; args = c.args.args.now }) c.in_ok-sort.sort c.new-node.result
     c.in_ok-sort.ensures.sort c.new-node.ensures in
-    subst (λ (e : Entry). sort_of c.args.self.now.pointer (Apply e.op (operands (terms_of c.args.self.now) e.args)) ≡ Some c.in_ok-sort.sort)
+    subst (λ (e : Entry). sort_of c.args.self.now.pointer (Apply e.op (operands (terms_of c.args.self.now) e.args))
+    ≡ Some c.in_ok-sort.sort)
     (sym seen) c.in_ok-sort.ensures.sort
 
 pub add-requires-clause-new : goal.add-requires-clause-new
@@ -106,4 +107,5 @@ returns-in-None-clause-term c =
     (c.add.ensures.place, c.add.ensures.added, c.add.ensures.err))
 
 pub returns-in-None-clause-sort : goal.returns-in-None-clause-sort
-returns-in-None-clause-sort c = IfOk-weaker c.add.result _ _ (λ id e. ap (sort_of c.args.self.now.pointer) e) (returns-in-None-clause-term c)
+returns-in-None-clause-sort c =
+    IfOk-weaker c.add.result _ _ (λ id e. ap (sort_of c.args.self.now.pointer) e) (returns-in-None-clause-term c)

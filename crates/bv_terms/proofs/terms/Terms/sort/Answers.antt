@@ -11,6 +11,7 @@ returns c =
     let kept = c.self.inside.nodes.entries in
     let entry : slice_get kept c.args.at.0 ≡ Some (c.unwrap.result.0.now, c.unwrap.result.1.now) =
     sym c.get_index.ensures.entry ∙ ap (option_map deref_pair) c.unwrap.ensures in
-    subst (λ (table : Table). sort_of table.pointer (term_at table c.args.at) ≡ Some c.unwrap.result.1.now) c.self.view_is
+    subst (λ (table : Table). sort_of table.pointer (term_at table c.args.at) ≡ Some c.unwrap.result.1.now)
+    c.self.view_is
     (kept-sort c.self.inside.pointer kept c.self.invariant c.args.at.0
     (c.unwrap.result.0.now, c.unwrap.result.1.now) entry)

@@ -20,13 +20,15 @@ pub returns-in-empty-clause-fault : goal.returns-in-empty-clause-fault
 returns-in-empty-clause-fault c =
     let sorts = ap (λ args. sorts_of c.args.self.now.pointer (operands (terms_of c.args.self.now) args))
     (empty_list c.args.args.now c.in-empty.len_below) ∙ sorts_of-end c.args.self.now.pointer in
-    fault-from_sorts c.args.self.now c.self.inside.pointer (pointer-same c.self.view_is) c.args.op c.args.args.now [] c.sort_over.result sorts c.sort_over.ensures
+    fault-from_sorts c.args.self.now c.self.inside.pointer (pointer-same c.self.view_is) c.args.op c.args.args.now []
+    c.sort_over.result sorts c.sort_over.ensures
 
 pub returns-in-empty-clause-sort : goal.returns-in-empty-clause-sort
 returns-in-empty-clause-sort c =
     let sorts = ap (λ args. sorts_of c.args.self.now.pointer (operands (terms_of c.args.self.now) args))
     (empty_list c.args.args.now c.in-empty.len_below) ∙ sorts_of-end c.args.self.now.pointer in
-    sort-from_sorts c.args.self.now c.self.inside.pointer (pointer-same c.self.view_is) c.args.op c.args.args.now [] c.sort_over.result sorts c.sort_over.ensures
+    sort-from_sorts c.args.self.now c.self.inside.pointer (pointer-same c.self.view_is) c.args.op c.args.args.now []
+    c.sort_over.result sorts c.sort_over.ensures
 
 pub returns-in-len1-clause-fault : goal.returns-in-len1-clause-fault
 returns-in-len1-clause-fault c =
@@ -50,8 +52,10 @@ pub returns-in-len2-clause-fault : goal.returns-in-len2-clause-fault
 returns-in-len2-clause-fault c =
     let sorts = ap (λ args. sorts_of c.args.self.now.pointer (operands (terms_of c.args.self.now) args))
     (two_elements c.args.args.now zeroth c.in-len2.len_at_least c.in-len2.len_below)
-    ∙ sorts_of-then c.args.self.now.pointer _ _ c.sort-in-len2.result (c.sort-in-len2-2.result ∷ []) c.sort-in-len2.ensures
-    (sorts_of-then c.args.self.now.pointer _ End c.sort-in-len2-2.result [] c.sort-in-len2-2.ensures (sorts_of-end c.args.self.now.pointer)) in
+    ∙ sorts_of-then c.args.self.now.pointer _ _ c.sort-in-len2.result (c.sort-in-len2-2.result ∷ [])
+    c.sort-in-len2.ensures
+    (sorts_of-then c.args.self.now.pointer _ End c.sort-in-len2-2.result [] c.sort-in-len2-2.ensures
+    (sorts_of-end c.args.self.now.pointer)) in
     fault-from_sorts c.args.self.now c.self.inside.pointer (pointer-same c.self.view_is) c.args.op c.args.args.now
     (c.sort-in-len2.result ∷ c.sort-in-len2-2.result ∷ []) c.sort_over-in-len2.result sorts
     c.sort_over-in-len2.ensures
@@ -60,8 +64,10 @@ pub returns-in-len2-clause-sort : goal.returns-in-len2-clause-sort
 returns-in-len2-clause-sort c =
     let sorts = ap (λ args. sorts_of c.args.self.now.pointer (operands (terms_of c.args.self.now) args))
     (two_elements c.args.args.now zeroth c.in-len2.len_at_least c.in-len2.len_below)
-    ∙ sorts_of-then c.args.self.now.pointer _ _ c.sort-in-len2.result (c.sort-in-len2-2.result ∷ []) c.sort-in-len2.ensures
-    (sorts_of-then c.args.self.now.pointer _ End c.sort-in-len2-2.result [] c.sort-in-len2-2.ensures (sorts_of-end c.args.self.now.pointer)) in
+    ∙ sorts_of-then c.args.self.now.pointer _ _ c.sort-in-len2.result (c.sort-in-len2-2.result ∷ [])
+    c.sort-in-len2.ensures
+    (sorts_of-then c.args.self.now.pointer _ End c.sort-in-len2-2.result [] c.sort-in-len2-2.ensures
+    (sorts_of-end c.args.self.now.pointer)) in
     sort-from_sorts c.args.self.now c.self.inside.pointer (pointer-same c.self.view_is) c.args.op c.args.args.now
     (c.sort-in-len2.result ∷ c.sort-in-len2-2.result ∷ []) c.sort_over-in-len2.result sorts
     c.sort_over-in-len2.ensures
