@@ -8,6 +8,7 @@ use Rattle.std.specs.String.{string_bytes, string_eq}
 use Rattle.std.proofs.lemmas.Bool.{false≢true}
 use Rattle.std.proofs.lemmas.List.Elements.{Contains-get_or, Contains-append_right, Contains-append_cases}
 use Rattle.std.proofs.lemmas.Slice.Eq.{bytes_eq-Decides}
+use Rattle.collections.specs.Named.{named}
 use Rattle.indexmap.specs.IndexMap.{IndexMap, insert_entry}
 use Rattle.indexmap.proofs.CallerLemmas.{insert_entry-new}
 
@@ -53,6 +54,12 @@ module _ {Y T : Type 0} where
       → Decides (is_some (found es bs)) (Contains (names (pairs es)) bs)
   Decides-found [] bs = (λ e. absurd (false≢true e), λ w. absurd (omega (arith, w.1)))
   Decides-found (e ∷ es) bs = step e es bs (bytes_eq bs (string_bytes e.0)) refl (Decides-found es bs)
+
+  -- the look-up in the list that contracts see is that in the entries
+  pub named-pairs : (es : List (String Y × T)) (bs : List ℕ) → named (pairs es) bs ≡ found es bs
+  named-pairs [] bs = refl
+  named-pairs (e ∷ es) bs =
+      ap (λ (o : Option T). cond (bytes_eq bs (string_bytes e.0)) (Some e.1) o) (named-pairs es bs)
 
   pub found-none : (es : List (String Y × T)) (bs : List ℕ) → ¬ (Contains (names (pairs es)) bs) → found es bs ≡ None
   found-none es bs new = by (found es bs) refl

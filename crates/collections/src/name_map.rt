@@ -3,6 +3,7 @@
 ghost use Rattle.std.specs.Prelude.{◌≡◌, ◌↔◌, [], ◌∷◌, ◌++◌, length, map, slice_get, option_map, Contains};
 ghost use Rattle.std.specs.Prelude.{IsTrue, OnOk, OnErr};
 ghost use Rattle.std.specs.String.{string_bytes};
+ghost use Rattle.collections.specs.Named.{named};
 
 use indexmap::IndexMap;
 use std::alloc::{AllocError, Global};
@@ -52,6 +53,13 @@ impl<T> NameMap<T> {
             Some((name, value)) => Some((name.as_str(), value)),
             None => None,
         }
+    }
+
+    /// The value under a name.
+    pub fn find(&self, name: &str) -> Option<&T>
+        ensures { option_map (λ value. value.now) result ≡ named self.now name.now }
+    {
+        self.entries.get(name)
     }
 
     /// Whether a name stands in the table.

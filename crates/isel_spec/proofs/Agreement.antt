@@ -6,7 +6,8 @@ use Rattle.sexp_read.specs.Tree.{Tree, Trees, Word, Branch, End, Then}
 use Rattle.sexp_read.specs.Forest.{Denotes, DenoteAll, atom_at, children_at}
 use Rattle.isel_spec.specs.declared.small_form.subject.Subject.{Subject}
 use Rattle.isel_spec.specs.declared.small_form.subject.Subject.TheVariants.{Operation, Goal}
-use Rattle.isel_spec.specs.Text.{is_name, each}
+use Rattle.isel_spec.specs.File.{is_short_name}
+use Rattle.isel_spec.specs.Text.{each}
 use Rattle.isel_spec.specs.Form.{where_true, tree_view, list_of, word_in, members_in, none_of}
 use Rattle.isel_spec.specs.Form.{one_of, two_of, three_of, four_of, first_of, sort_in, arg_in}
 use Rattle.isel_spec.specs.Form.{goal_arg_in, binding_in, pointer_in, cost_in, parts_in, Parts}
@@ -222,5 +223,5 @@ parts_agree subject bytes items numbers trees ds =
     (members_in q.3) _ _ (members_agree bytes items p.3 q.3 e.3)
     (λ results said_results rs. bind_related (Denotes bytes items) (StandsFor bytes items) (one_of results)
     (one_of said_results) _ _ (one_agrees (Denotes bytes items) results said_results rs)
-    (λ result said r. where_agrees (StandsFor bytes items) (is_name name) _ _
+    (λ result said r. where_agrees (StandsFor bytes items) (is_short_name name) _ _
     (record { name = refl; args = a; cost = refl; result = r })))))))

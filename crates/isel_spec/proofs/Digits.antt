@@ -1,42 +1,16 @@
 -- Numbers read digit by digit.
-use Rattle.std.proofs.Common.{◌≡◌, ℕ, ◌+◌, ◌-◌, ◌*◌, ◌^◌, ◌<◌, ◌≤◌, List, [], ◌∷◌, length, get_or, drop, fold, map}
-use Rattle.std.proofs.Common.{refl, ap, ◌∙◌, suc, mul-add, arith, add-one, true, Option, Some, None}
+use Rattle.std.proofs.Common.{◌≡◌, ℕ, ◌+◌, ◌*◌, ◌^◌, ◌<◌, ◌≤◌, List, ◌∷◌, length, get_or, drop, fold}
+use Rattle.std.proofs.Common.{refl, ap, ◌∙◌, suc, mul-add, arith, add-one, Option, Some, None}
 use Rattle.std.proofs.Common.{option_map, option_and_then}
 use Rattle.std.proofs.Math.Seq.{drop-cons}
 use Rattle.std.proofs.Math.Nat.{mul-le-mul_left, pow-le-pow_right}
 use Rattle.std.proofs.lemmas.Nat.{pow-add}
 use Rattle.std.proofs.lemmas.List.{drop_all}
-use Rattle.std.proofs.lemmas.List.Recursion.{and_at}
-use Rattle.std.proofs.lemmas.Bool.Decides.{nat_tests}
-use Rattle.std.specs.List.{list_all}
-use Rattle.isel_spec.specs.Text.{each, is_digit, is_numeral}
+use Rattle.isel_spec.specs.Text.{each}
 
 -- the number that more digits make of a number
 abbrev pub number_from : ℕ → ℕ → List ℕ → ℕ
 number_from base n digits = fold (λ n digit. base * n + digit) n digits
-
-abbrev pub decimal_from : ℕ → List ℕ → ℕ
-decimal_from n bytes = number_from 10 n (map (λ b. b - 48) bytes)
-
-pub number_from-ge : (n : ℕ) (digits : List ℕ) → n ≤ number_from 10 n digits
-number_from-ge n [] = omega arith
-number_from-ge n (d ∷ ds) = omega (arith, number_from-ge (10 * n + d) ds)
-
-pub decimal_more : (n : ℕ) (bytes : List ℕ) (i : ℕ) → i < length bytes
-    → decimal_from n (drop i bytes) ≡ decimal_from (10 * n + (get_or bytes i 0 - 48)) (drop (i + 1) bytes)
-decimal_more n bytes i h = rw (add-one, drop-cons bytes i 0) refl
-
--- the digits of a numeral are digits
-pub digits_from_numeral : (bytes : List ℕ) → is_numeral bytes ≡ true → list_all is_digit bytes ≡ true
-digits_from_numeral [] h = refl
-digits_from_numeral (b ∷ []) h = grind arith
-digits_from_numeral (b ∷ c ∷ rest) h = grind arith
-
-pub digit_at : (bytes : List ℕ) (i : ℕ) → is_numeral bytes ≡ true → i < length bytes → 48 ≤ get_or bytes i 0
-digit_at bytes i h l =
-    let e : is_digit (get_or bytes i 0) ≡ true =
-    and_at (list_all is_digit) is_digit refl (λ _ _. refl) bytes i 0 l (digits_from_numeral bytes h) in
-    grind (arith, nat_tests)
 
 front : (base n d : ℕ) (rest : Option (List ℕ)) →
     option_map (number_from base n) (option_and_then (λ ys. Some (d ∷ ys)) rest)

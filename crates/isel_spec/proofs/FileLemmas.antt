@@ -1,6 +1,6 @@
 -- What the tables that were read say of the file.
 use Rattle.std.proofs.Common.{◌≡◌, ℕ, ◌<◌, ◌≤◌, List, [], ◌∷◌, length, map, sum, refl, ap, sym, ◌∙◌, subst}
-use Rattle.std.proofs.Common.{arith}
+use Rattle.std.proofs.Common.{arith, ⊎_elim}
 use Rattle.std.proofs.Common.{Bool, true, false, not, ◌&&◌, Option, Some, None, option_and_then}
 use Rattle.std.specs.Prelude.{nat_le, Contains, All, ◌==◌}
 use Rattle.std.specs.List.{AllZip, AllByRecursion, list_any, list_all}
@@ -8,7 +8,7 @@ use Rattle.std.specs.Str.{bytes_eq}
 use Rattle.std.proofs.lemmas.Bool.{and_parts, false≢true, leb-true}
 use Rattle.std.proofs.lemmas.Bool.Decides.{Decides-eqb}
 use Rattle.std.proofs.lemmas.List.{length-map}
-use Rattle.std.proofs.lemmas.List.Elements.{All-from_recursion}
+use Rattle.std.proofs.lemmas.List.Elements.{All-from_recursion, Contains-append_cases}
 use Rattle.std.proofs.lemmas.Option.{none-some, same_Some, slice_get_within, option_and_then_some}
 use Rattle.bv_terms.specs.Sorts.{width_of}
 use Rattle.bv_terms.specs.Table.{Table}
@@ -22,6 +22,7 @@ use Rattle.isel_spec.specs.declared.definitions.GoalDef.{GoalDef}
 use Rattle.isel_spec.specs.declared.small_form.tables.Tables.{Tables}
 use Rattle.isel_spec.specs.File as file
 use Rattle.isel_spec.specs.File.{File, operation, goal, is_between, is_sound, is_sound_op, is_sound_goal}
+use Rattle.isel_spec.specs.File.{is_short_name, differ, all_names}
 use Rattle.isel_spec.specs.Form.{is_small, is_new, file_in, pointer_in, with_items, where_true, list_of}
 use Rattle.isel_spec.specs.Items.{item_view}
 use Rattle.isel_spec.specs.Tables.{file_so_far, HasFew, IsSoundSoFar, IsAdded, IsRefused}
@@ -96,6 +97,13 @@ new-goal tables n name same e has =
     (subst (λ ns. Contains ns name) (sym (names_of_goals tables.terms tables.goals))
     (subst (Contains (map (λ (e : List ℕ × GoalDef). e.0) tables.goals)) same has))
 
+pub new-name : (tables : Tables) (name : List ℕ) → is_new (file_so_far tables) name ≡ true
+    → Contains (all_names tables.ops tables.goals) name → ⊥
+new-name tables name e has =
+    ⊎_elim (λ op. new-op tables name name refl e op) (λ goal. new-goal tables name name refl e goal)
+    (Contains-append_cases (map (λ (e : List ℕ × OpDef). e.0) tables.ops)
+    (map (λ (e : List ℕ × GoalDef). e.0) tables.goals) name has)
+
 pub small-no_goal : (os : List file.Operation) (table : Table) (gs : List (List ℕ × GoalDef)) → (length gs ≡ 1 → ⊥)
     → is_small os (map (goal table) gs) ≡ false
 small-no_goal os table [] h = refl
@@ -158,8 +166,9 @@ small-limits table es (g ∷ []) e =
     (subst (λ m. m ≤ 6) (length-map es (operation table)) (leb-true count 6 most.1), omega arith)
 small-limits table es (g ∷ k ∷ gs) e = absurd (false≢true e)
 
-five : (a b c d e : Bool) → a ≡ true → b ≡ true → c ≡ true → d ≡ true → e ≡ true → (a && b && c && d && e) ≡ true
-five a b c d e p q r s t = rw (p, q, r, s, t) refl
+seven : (a b c d e f g : Bool) → a ≡ true → b ≡ true → c ≡ true → d ≡ true → e ≡ true → f ≡ true → g ≡ true
+    → (a && b && c && d && e && f && g) ≡ true
+seven a b c d e f g p q r s t u v = rw (p, q, r, s, t, u, v) refl
 
 -- tables of a small file meet what each `Spec` keeps
 pub sound-tables : (pointer : ℕ) (tables : Tables) → tables.terms.pointer ≡ pointer → IsSoundSoFar tables
@@ -167,12 +176,13 @@ pub sound-tables : (pointer : ℕ) (tables : Tables) → tables.terms.pointer �
     → is_sound pointer tables.terms tables.ops tables.goals ≡ true
 sound-tables pointer tables same sound small =
     let limits = small-limits tables.terms tables.ops tables.goals small in
-    five (pointer == tables.terms.pointer) (nat_le (length tables.ops) 64) (nat_le (length tables.goals) 256)
+    seven (pointer == tables.terms.pointer) (nat_le (length tables.ops) 64) (nat_le (length tables.goals) 256)
+    (list_all is_short_name (all_names tables.ops tables.goals)) (differ (all_names tables.ops tables.goals))
     (list_all (is_sound_op tables.terms) tables.ops) (list_all (is_sound_goal tables.terms) tables.goals)
     ((Decides-eqb pointer tables.terms.pointer).1 (sym same))
     (le-true (length tables.ops) 64 (omega (arith, limits.0)))
     (le-true (length tables.goals) 256 (omega (arith, limits.1)))
-    sound.ops sound.goals
+    sound.short sound.apart sound.ops sound.goals
 
 -- the file of no definitions
 abbrev pub no_file : ℕ → File

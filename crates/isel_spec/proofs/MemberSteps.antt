@@ -1,9 +1,9 @@
 -- The steps by which a definition is read, and becomes the last of a file.
 use Rattle.std.proofs.Common.{◌≡◌, ℕ, ◌<◌, ◌≤◌, List, [], ◌∷◌, ◌++◌, length, map, refl, ap, sym, ◌∙◌, subst}
-use Rattle.std.proofs.Common.{Bool, true, false}
+use Rattle.std.proofs.Common.{Bool, true, false, ◌&&◌}
 use Rattle.std.proofs.Common.{Option, Some, None, option_and_then}
-use Rattle.std.specs.Prelude.{nat_le}
-use Rattle.std.specs.List.{AllZip}
+use Rattle.std.specs.Prelude.{nat_le, nat_lt}
+use Rattle.std.specs.List.{AllZip, list_all}
 use Rattle.std.proofs.lemmas.List.{length-map}
 use Rattle.std.proofs.lemmas.Option.{none-some, same_Some, option_and_then_some}
 use Rattle.bv_terms.specs.declared.op.TermId.{TermId}
@@ -21,7 +21,9 @@ use Rattle.isel_spec.specs.declared.small_form.subject.Subject.{Subject}
 use Rattle.isel_spec.specs.declared.small_form.subject.Subject.TheVariants.{Operation, Goal}
 use Rattle.isel_spec.specs.declared.small_form.tables.Tables.{Tables}
 use Rattle.isel_spec.specs.File as file
-use Rattle.isel_spec.specs.File.{File, operation, goal, stays_in, is_sound_op, is_sound_goal}
+use Rattle.isel_spec.specs.File.{File, operation, goal, stays_in, is_sound_op, is_sound_goal, are_sound}
+use Rattle.isel_spec.specs.File.{has_sound_results, has_kind, is_sized, sorts_in, is_short_name}
+use Rattle.isel_spec.specs.Memory.{subterm_count, has_memory_shape, has_plain_pointers, accessed_bytes}
 use Rattle.isel_spec.specs.Text.{each}
 use Rattle.isel_spec.specs.Form.{Binding, Parts, parts_in, binding_in, scope_of, tree_view, body_in, term_of}
 use Rattle.isel_spec.specs.Form.{where_true}
@@ -32,10 +34,14 @@ use Rattle.isel_spec.specs.Reading.{IsTermOf, KeepsTerms}
 use Rattle.isel_spec.specs.Tables.{file_so_far, HasFew, IsSoundSoFar, IsBody, IsAdded, IsRefused}
 use Rattle.isel_spec.proofs.Agreement.{StandsFor, parts_agree, bindings_agree}
 use Rattle.isel_spec.proofs.Agreement.{members_agree, first_agrees, words_agree}
+use Rattle.isel_spec.proofs.FileLemmas.{new-name}
+use Rattle.isel_spec.proofs.PlainTerms.{AreVectors, is_plain, vectors_sized, plain-shape, plain-pointers, plain-bytes}
+use Rattle.isel_spec.proofs.SmallFiles.{IsPlainBody, plain_body, parts_limited}
 use Rattle.isel_spec.proofs.Stays.{term-stays}
+use Rattle.isel_spec.proofs.SubtermCounts.{few-counted}
 use Rattle.isel_spec.proofs.TableGrowth.{and_operation, and_goal, one-more_op, one-more_goal}
 use Rattle.isel_spec.proofs.TableGrowth.{few-with_op, few-with_goal, few-without_op, few-without_goal}
-use Rattle.list_lemmas.proofs.Bools.{le_true as le-true, lt-true}
+use Rattle.list_lemmas.proofs.Bools.{and-both, le_true as le-true, lt-true}
 use Rattle.list_lemmas.proofs.Lists.{append-nothing}
 use Rattle.list_lemmas.proofs.Options.{Agree, agree-none, agree-some, bind-last, bind_related, bind_same}
 
@@ -255,27 +261,80 @@ args_are : (scope : List Binding) → map (λ (b : Binding). b.1) scope
 args_are [] = refl
 args_are (b ∷ scope) = ap (λ ss. b.1 ∷ ss) (args_are scope)
 
-sound-op : (table : Table) (name : List ℕ) (scope : List Binding) (at : TermId) → length scope ≤ 4
-    → at.0 < length table.nodes → stays_in (map (λ (b : Binding). b.1) scope) (term_at table at) ≡ true
+kinds_fit : (scope : List Binding) → AreVectors (map (λ (b : Binding). b.1) scope)
+    → list_all has_kind (map (λ (b : Binding). (kind.Reg, b.1)) scope) ≡ true
+kinds_fit [] v = refl
+kinds_fit (b ∷ scope) v =
+    let reg : Kind × Sort = (kind.Reg, b.1) in
+    let fit : has_kind reg ≡ true = ap (λ (s : Sort). has_kind (kind.Reg, s)) v.0.1 in
+    and-both (has_kind reg) (list_all has_kind (map (λ (b : Binding). (kind.Reg, b.1)) scope)) fit
+    (kinds_fit scope v.1)
+
+-- a result in the table with few terms, whose inputs are the arguments, and no memory in either
+record IsFit (table : Table) (scope : List Binding) (at : TermId) : Type 0 where
+  short : length scope ≤ 4
+  within : at.0 < length table.nodes
+  stays : stays_in (map (λ (b : Binding). b.1) scope) (term_at table at) ≡ true
+  few : HasFewTerms (term_at table at ∷ [])
+  body : IsPlainBody (scope, term_at table at)
+
+one_sound : (table : Table) (ss : List Sort) (at : TermId) → at.0 < length table.nodes
+    → stays_in ss (term_at table at) ≡ true → are_sound table ss (at ∷ []) ≡ true
+one_sound table ss at within stays =
+    let n = length table.nodes in
+    and-both (nat_lt at.0 n && stays_in ss (term_at table at)) true
+    (and-both (nat_lt at.0 n) (stays_in ss (term_at table at)) (lt-true at.0 n within) stays) refl
+
+one_plain : (t : Term) → is_plain t ≡ true → list_all is_plain (t ∷ []) ≡ true
+one_plain t h = and-both (is_plain t) true h refl
+
+one_shaped : (table : Table) (scope : List Binding) (at : TermId) → IsFit table scope at
+    → has_sound_results table (map (λ (b : Binding). b.1) scope) (at ∷ []) ≡ true
+one_shaped table scope at fit =
+    let ts : List Term = term_at table at ∷ [] in
+    let args : List Sort = map (λ (b : Binding). b.1) scope in
+    and-both (nat_le (subterm_count ts) 256) (has_memory_shape args ts) (few-counted ts fit.few)
+    (plain-shape args ts fit.body.vectors (one_plain (term_at table at) fit.body.plain))
+
+sound-op : (table : Table) (name : List ℕ) (scope : List Binding) (at : TermId) → IsFit table scope at
     → is_sound_op table (op_entry name scope at) ≡ true
-sound-op table name scope at few within s =
+sound-op table name scope at fit =
     let sorts : List Sort = map (λ (b : Binding). b.1) scope in
     let count : nat_le (length sorts) 4 ≡ true =
-    le-true (length sorts) 4 (subst (λ n. n ≤ 4) (sym (length-map scope (λ (b : Binding). b.1))) few) in
+    le-true (length sorts) 4 (subst (λ n. n ≤ 4) (sym (length-map scope (λ (b : Binding). b.1))) fit.short) in
     let stays : stays_in (sorts ++ []) (term_at table at) ≡ true =
-    subst (λ ss. stays_in ss (term_at table at) ≡ true) (sym (append-nothing sorts)) s in
-    rw (count, lt-true at.0 (length table.nodes) within, stays) refl
+    subst (λ ss. stays_in ss (term_at table at) ≡ true) (sym (append-nothing sorts)) fit.stays in
+    four (nat_le (length sorts) 4) (list_all is_sized sorts) (are_sound table (sorts ++ []) (at ∷ []))
+    (has_sound_results table sorts (at ∷ [])) count (vectors_sized sorts fit.body.vectors)
+    (one_sound table (sorts ++ []) at fit.within stays) (one_shaped table scope at fit)
+  where
+    four : (a b c d : Bool) → a ≡ true → b ≡ true → c ≡ true → d ≡ true
+        → (a && true && true && b && true && c && d) ≡ true
+    four a b c d p q r s = rw (p, q, r, s) refl
 
-sound-goal : (table : Table) (name : List ℕ) (scope : List Binding) (cost : ℕ) (at : TermId) → length scope ≤ 4
-    → at.0 < length table.nodes → stays_in (map (λ (b : Binding). b.1) scope) (term_at table at) ≡ true
-    → is_sound_goal table (goal_entry name scope cost at) ≡ true
-sound-goal table name scope cost at few within s =
+sound-goal : (table : Table) (name : List ℕ) (scope : List Binding) (cost : ℕ) (at : TermId) → IsFit table scope at
+    → nat_le cost 65535 ≡ true → is_sound_goal table (goal_entry name scope cost at) ≡ true
+sound-goal table name scope cost at fit cheap =
     let reg : Binding → Kind × Sort = λ b. (kind.Reg, b.1) in
-    let count : nat_le (length (map reg scope)) 4 ≡ true =
-    le-true (length (map reg scope)) 4 (subst (λ n. n ≤ 4) (sym (length-map scope reg)) few) in
-    let stays : stays_in (map (λ (a : Kind × Sort). a.1) (map reg scope)) (term_at table at) ≡ true =
-    subst (λ ss. stays_in ss (term_at table at) ≡ true) (args_are scope) s in
-    rw (count, lt-true at.0 (length table.nodes) within, stays) refl
+    let args : List (Kind × Sort) = map reg scope in
+    let count : nat_le (length args) 4 ≡ true =
+    le-true (length args) 4 (subst (λ n. n ≤ 4) (sym (length-map scope reg)) fit.short) in
+    let ts : List Term = term_at table at ∷ [] in
+    let plain = one_plain (term_at table at) fit.body.plain in
+    eight (nat_le (length args) 4) (list_all has_kind args) (list_all is_sized (sorts_in args)) (nat_le cost 65535)
+    (are_sound table (sorts_in args) (at ∷ [])) (has_sound_results table (sorts_in args) (at ∷ []))
+    (has_plain_pointers ts) (nat_le (accessed_bytes ts) 32)
+    count (kinds_fit scope fit.body.vectors)
+    (ap (list_all is_sized) (sym (args_are scope)) ∙ vectors_sized (map (λ (b : Binding). b.1) scope) fit.body.vectors)
+    cheap
+    (one_sound table (sorts_in args) at fit.within
+    (subst (λ ss. stays_in ss (term_at table at) ≡ true) (args_are scope) fit.stays))
+    (subst (λ ss. has_sound_results table ss (at ∷ []) ≡ true) (args_are scope) (one_shaped table scope at fit))
+    (plain-pointers ts plain) (plain-bytes ts plain)
+  where
+    eight : (a b c d e f g h : Bool) → a ≡ true → b ≡ true → c ≡ true → d ≡ true → e ≡ true → f ≡ true → g ≡ true
+        → h ≡ true → (a && true && b && c && d && e && f && g && h) ≡ true
+    eight a b c d e f g h p q r s t u v w = rw (p, q, r, s, t, u, v, w) refl
 
 -- what was read of a definition
 pub record HasBody (subject : Subject) (bytes : List ℕ) (items : List Item) (numbers : List ℕ) (read : Parts ℕ)
@@ -299,6 +358,31 @@ body-of subject bytes items numbers read old table scope at trees d h =
     let has = parts-of subject bytes items numbers read trees d h.parts in
     (has, h.body has.said.args has.said.result has.stands.args has.stands.result)
 
+-- what was read is fit for the table
+record IsFitRead (table : Table) (scope : List Binding) (at : TermId) (read : Parts ℕ) : Type 0 where
+  fit : IsFit table scope at
+  short : is_short_name read.name ≡ true
+  cheap : nat_le read.cost 65535 ≡ true
+
+fit-of : (subject : Subject) (bytes : List ℕ) (items : List Item) (numbers : List ℕ) (read : Parts ℕ)
+    (old : Tables) (table : Table) (scope : List Binding) (at : TermId) (trees : List Tree)
+    → AllZip (Denotes bytes items) numbers trees → HasBody subject bytes items numbers read old table scope at
+    → IsFitRead table scope at read
+fit-of subject bytes items numbers read old table scope at trees d h =
+    let b = body-of subject bytes items numbers read old table scope at trees d h in
+    let limited = parts_limited subject trees b.0.said b.0.is in
+    record {
+      fit = record {
+        short = h.few;
+        within = h.within;
+        stays = b.1.stays;
+        few = b.1.few;
+        body = plain_body old.terms.pointer subject b.0.said.args b.0.said.result (scope, term_at table at) b.1.is;
+      };
+      short = ap is_short_name b.0.stands.name ∙ limited.name;
+      cheap = ap (λ n. nat_le n 65535) b.0.stands.cost ∙ limited.cost;
+    }
+
 new-said : (f : File) (name said : List ℕ) (g : File) → name ≡ said → is_new f name ≡ true
     → where_true (is_new f said) g ≡ Some g
 new-said f name said g same e = ap (λ b. where_true b g) (ap (is_new f) (sym same) ∙ e)
@@ -314,8 +398,9 @@ added-op bytes items numbers read old new scope at some h sound ops goals =
     let table = new.terms in
     let one = (body-of Operation bytes items numbers read old table scope at some.0 some.1 h).1 in
     let e = op_entry read.name scope at in
-    let stand = one-more_op old new e h.keeps sound ops goals
-    (sound-op table read.name scope at h.few h.within one.stays) in
+    let fit = fit-of Operation bytes items numbers read old table scope at some.0 some.1 h in
+    let stand = one-more_op old new e h.keeps sound ops goals (sound-op table read.name scope at fit.fit) fit.short
+    (new-name old read.name h.new) in
     record {
       pointer = h.keeps.pointer;
       sound = stand.sound;
@@ -343,8 +428,9 @@ added-goal bytes items numbers read old new scope at some h sound goals ops =
     let table = new.terms in
     let one = (body-of Goal bytes items numbers read old table scope at some.0 some.1 h).1 in
     let e = goal_entry read.name scope read.cost at in
+    let fit = fit-of Goal bytes items numbers read old table scope at some.0 some.1 h in
     let stand = one-more_goal old new e h.keeps sound goals ops
-    (sound-goal table read.name scope read.cost at h.few h.within one.stays) in
+    (sound-goal table read.name scope read.cost at fit.fit fit.cheap) fit.short (new-name old read.name h.new) in
     record {
       pointer = h.keeps.pointer;
       sound = stand.sound;

@@ -1,21 +1,17 @@
 -- Arguments are read one by one, and refused where there are too many or a name comes twice.
 use Rattle.std.proofs.Common.{◌≡◌, ℕ, ◌+◌, ◌<◌, ◌≤◌, suc, List, [], ◌∷◌, ◌++◌, length, get_or, drop, map, refl}
-use Rattle.std.proofs.Common.{ap, sym, ◌∙◌, arith, add-one, Bool, true, false, not, ◌&&◌, ◌||◌, Option, Some}
-use Rattle.std.proofs.Common.{None, option_map, option_and_then, append_assoc, zero, ⊎_elim, length-append}
+use Rattle.std.proofs.Common.{ap, sym, ◌∙◌, arith, add-one, true, false, Option, Some}
+use Rattle.std.proofs.Common.{None, option_map, option_and_then, append_assoc, length-append}
 use Rattle.std.specs.Prelude.{Contains, nat_le}
-use Rattle.std.specs.List.{list_any}
-use Rattle.std.specs.Str.{bytes_eq}
 use Rattle.std.proofs.Math.Seq.{drop-cons}
 use Rattle.std.proofs.lemmas.List.{drop_all}
-use Rattle.std.proofs.lemmas.List.Elements.{Contains-append_cases, Contains-append_right}
-use Rattle.std.proofs.lemmas.List.Recursion.{or_push}
-use Rattle.std.proofs.lemmas.Slice.Eq.{bytes_eq-Decides}
 use Rattle.std.proofs.lemmas.Bool.Decides.{nat_tests}
 use Rattle.isel_spec.specs.Text.{each}
-use Rattle.isel_spec.specs.Form.{Binding, differ, scope_of}
-use Rattle.list_lemmas.proofs.Bools.{and_false, and_parts as and_true, false_unless}
+use Rattle.isel_spec.specs.File.{differ}
+use Rattle.isel_spec.specs.Form.{Binding, scope_of}
+use Rattle.isel_spec.proofs.NameLists.{differ-apart, differ-twice}
+use Rattle.list_lemmas.proofs.Bools.{and_false}
 use Rattle.list_lemmas.proofs.Lists.{append-nothing}
-use Rattle.list_lemmas.proofs.Lookups.{any_name, only_one}
 
 -- ---- what each gives, one after another
 
@@ -39,41 +35,6 @@ each-stop f xs i done h e = rw (drop-cons xs i 0, e) refl
 pub each-end : {B : Type 0} (f : ℕ → Option B) (xs : List ℕ) (i : ℕ) (done : List B) → length xs ≤ i →
     option_map (λ more. done ++ more) (each f (drop i xs)) ≡ Some done
 each-end f xs i done h = rw (drop_all i xs) (ap Some (append-nothing done))
-
--- ---- names that differ
-
-tidy : (a b : Bool) → not a ≡ true → b ≡ true → (not (a || false) && b) ≡ true
-tidy true b e f = cc
-tidy false b e f = f
-
-or_true : (a b : Bool) → a ≡ true → (not a && b) ≡ false
-or_true true b e = refl
-or_true false b e = cc
-
-pub differ-apart : (names : List (List ℕ)) (name : List ℕ) → differ names ≡ true → (Contains names name → ⊥)
-    → differ (names ++ name ∷ []) ≡ true
-differ-apart [] name e h = refl
-differ-apart (n ∷ names) name e h =
-    let any = or_push (list_any (bytes_eq n)) (bytes_eq n) refl (λ _ _. refl) names name in
-    let other : bytes_eq n name ≡ false =
-    false_unless (bytes_eq n name) (λ same. h (zero, omega arith, (bytes_eq-Decides n name).0 same)) in
-    let both = and_true (not (list_any (bytes_eq n) names)) (differ names) e in
-    let rest = differ-apart names name both.1 (λ c. h (Contains-append_right (n ∷ []) names name c)) in
-    rw (any, other) (tidy (list_any (bytes_eq n) names) (differ (names ++ name ∷ [])) both.0 rest)
-
-pub differ-twice : (names : List (List ℕ)) (name : List ℕ) (more : List (List ℕ)) → Contains names name
-    → differ (names ++ name ∷ more) ≡ false
-differ-twice [] name more h = absurd (omega (arith, h.1))
-differ-twice (n ∷ names) name more h =
-    ⊎_elim
-    (λ first.
-    let here : Contains (names ++ name ∷ more) n =
-    Contains-append_right names (name ∷ more) n (zero, omega arith, sym (only_one n name first)) in
-    or_true (list_any (bytes_eq n) (names ++ name ∷ more)) (differ (names ++ name ∷ more))
-    (any_name n (names ++ name ∷ more) here))
-    (λ later. and_false (not (list_any (bytes_eq n) (names ++ name ∷ more))) (differ (names ++ name ∷ more))
-    (differ-twice names name more later))
-    (Contains-append_cases (n ∷ []) names name h)
 
 -- ---- arguments
 

@@ -1,4 +1,5 @@
--- What a `Spec` keeps: its results stand in the table of terms, with inputs of their definition.
+-- What a `Spec` keeps: names that differ, and definitions whose results stand in the table of terms, with inputs of
+-- their own, few terms and one chain of memory.
 use Rattle.std.proofs.Common.{◌≡◌, ℕ, ◌<◌, ◌≤◌, Bool, true, false, ◌&&◌, List, [], ◌∷◌, ◌++◌}
 use Rattle.std.proofs.Common.{length, map, get_or, Option, Some, None, All, refl, sym, ap, ◌∙◌, subst, slice_get}
 use Rattle.std.specs.Prelude.{nat_lt, nat_le, ◌==◌, option_map}
@@ -23,79 +24,178 @@ use Rattle.isel_spec.specs.declared.definitions.OpDef.{OpDef}
 use Rattle.isel_spec.specs.declared.definitions.GoalDef.{GoalDef}
 use Rattle.isel_spec.specs.declared.spec.Spec.{Spec}
 use Rattle.isel_spec.specs.File.{Goal, operation, goal, scope, is_in_scope, stays_in, all_stay_in, are_sound}
-use Rattle.isel_spec.specs.File.{is_between, is_sound_op, is_sound_goal}
+use Rattle.isel_spec.specs.File.{is_between, is_sound, is_sound_op, is_sound_goal, results_in, has_sound_results}
+use Rattle.isel_spec.specs.File.{is_sized, has_kind, sorts_in, is_short_name, differ, all_names}
+use Rattle.isel_spec.specs.Memory.{subterm_count, has_memory_shape, has_plain_pointers, accessed_bytes}
 use Rattle.isel_spec.specs.Spec.{file}
 use Rattle.list_lemmas.proofs.Lookups.{list_all_at}
 
 -- ---- the parts of the test
 
--- a sound operation has at most four arguments, a result, and results of its own inputs
+-- a sound operation has at most four arguments, one to three results, and results of its own inputs: they have at most
+-- 256 different terms, and their memory is one chain
 pub record IsSoundOp (table : Table) (e : List ℕ × OpDef) : Type 0 where
   pub few : length e.1.args ≤ 4
+  pub few_attrs : length e.1.attrs ≤ 2
   pub some : 1 ≤ length e.1.results
+  pub most : length e.1.results ≤ 3
+  pub sized : list_all is_sized e.1.args ≡ true
+  pub attrs : list_all (is_between 1 64) e.1.attrs ≡ true
   pub results : are_sound table (scope e.1) e.1.results ≡ true
+  pub terms : subterm_count (results_in table e.1.results) ≤ 256
+  pub memory : has_memory_shape e.1.args (results_in table e.1.results) ≡ true
 
--- and so has a sound goal
+-- and so has a sound goal, whose pointers depend on no load, and which accesses at most 32 bytes
 pub record IsSoundGoal (table : Table) (e : List ℕ × GoalDef) : Type 0 where
   pub few : length e.1.args ≤ 4
   pub some : 1 ≤ length e.1.results
+  pub most : length e.1.results ≤ 3
+  pub kinds : list_all has_kind e.1.args ≡ true
+  pub sized : list_all is_sized (sorts_in e.1.args) ≡ true
+  pub cost : e.1.cost ≤ 65535
   pub results : are_sound table (map (λ a. a.1) e.1.args) e.1.results ≡ true
+  pub terms : subterm_count (results_in table e.1.results) ≤ 256
+  pub memory : has_memory_shape (sorts_in e.1.args) (results_in table e.1.results) ≡ true
+  pub pointers : has_plain_pointers (results_in table e.1.results) ≡ true
+  pub bytes : accessed_bytes (results_in table e.1.results) ≤ 32
 
-sound_op : (table : Table) (e : List ℕ × OpDef) → is_sound_op table e ≡ true → IsSoundOp table e
+-- the parts of a test on results
+record HasResultParts (args : List Sort) (ts : List Term) : Type 0 where
+  terms : subterm_count ts ≤ 256
+  memory : has_memory_shape args ts ≡ true
+
+result_parts : (args : List Sort) (ts : List Term)
+    → (nat_le (subterm_count ts) 256 && has_memory_shape args ts) ≡ true → HasResultParts args ts
+result_parts args ts h =
+    let parts = and_parts (nat_le (subterm_count ts) 256) (has_memory_shape args ts) h in
+    record { terms = leb-true (subterm_count ts) 256 parts.0; memory = parts.1 }
+
+pub sound_op : (table : Table) (e : List ℕ × OpDef) → is_sound_op table e ≡ true → IsSoundOp table e
 sound_op table e h =
+    let rs = e.1.results in
     let a = nat_le (length e.1.args) 4 in
     let b = nat_le (length e.1.attrs) 2 in
-    let n = is_between 1 3 (length e.1.results) in
+    let n = is_between 1 3 (length rs) in
+    let s = list_all is_sized e.1.args in
     let w = list_all (is_between 1 64) e.1.attrs in
-    let r = are_sound table (scope e.1) e.1.results in
-    let p = and_parts (a && b && n && w) r h in
-    let q = and_parts (a && b && n) w p.0 in
-    let m = and_parts (a && b) n q.0 in
+    let p = and_parts (a && b && n && s && w && are_sound table (scope e.1) rs) (has_sound_results table e.1.args rs) h
+    in
+    let q = and_parts (a && b && n && s && w) (are_sound table (scope e.1) rs) p.0 in
+    let t = and_parts (a && b && n && s) w q.0 in
+    let u = and_parts (a && b && n) s t.0 in
+    let m = and_parts (a && b) n u.0 in
     let o = and_parts a b m.0 in
-    let l = and_parts (nat_le 1 (length e.1.results)) (nat_le (length e.1.results) 3) m.1 in
+    let l = and_parts (nat_le 1 (length rs)) (nat_le (length rs) 3) m.1 in
+    let parts = result_parts e.1.args (results_in table rs) p.1 in
     record {
       few = leb-true (length e.1.args) 4 o.0;
-      some = leb-true 1 (length e.1.results) l.0;
-      results = p.1;
+      few_attrs = leb-true (length e.1.attrs) 2 o.1;
+      some = leb-true 1 (length rs) l.0;
+      most = leb-true (length rs) 3 l.1;
+      sized = u.1;
+      attrs = t.1;
+      results = q.1;
+      terms = parts.terms;
+      memory = parts.memory;
     }
 
-sound_goal : (table : Table) (e : List ℕ × GoalDef) → is_sound_goal table e ≡ true → IsSoundGoal table e
+-- the parts of the test of a goal
+record HasGoalParts (a b c d e f g i j : Bool) : Type 0 where
+  first : a ≡ true
+  second : b ≡ true
+  third : c ≡ true
+  fourth : d ≡ true
+  fifth : e ≡ true
+  sixth : f ≡ true
+  seventh : g ≡ true
+  eighth : i ≡ true
+  ninth : j ≡ true
+
+goal_parts : (a b c d e f g i j : Bool) → (a && b && c && d && e && f && g && i && j) ≡ true
+    → HasGoalParts a b c d e f g i j
+goal_parts a b c d e f g i j h =
+    let p = and_parts (a && b && c && d && e && f && g && i) j h in
+    let q = and_parts (a && b && c && d && e && f && g) i p.0 in
+    let r = and_parts (a && b && c && d && e && f) g q.0 in
+    let s = and_parts (a && b && c && d && e) f r.0 in
+    let t = and_parts (a && b && c && d) e s.0 in
+    let u = and_parts (a && b && c) d t.0 in
+    let v = and_parts (a && b) c u.0 in
+    let w = and_parts a b v.0 in
+    record {
+      first = w.0;
+      second = w.1;
+      third = v.1;
+      fourth = u.1;
+      fifth = t.1;
+      sixth = s.1;
+      seventh = r.1;
+      eighth = q.1;
+      ninth = p.1;
+    }
+
+pub sound_goal : (table : Table) (e : List ℕ × GoalDef) → is_sound_goal table e ≡ true → IsSoundGoal table e
 sound_goal table e h =
-    let a = nat_le (length e.1.args) 4 in
-    let n = is_between 1 3 (length e.1.results) in
-    let r = are_sound table (map (λ x. x.1) e.1.args) e.1.results in
-    let p = and_parts (a && n) r h in
-    let q = and_parts a n p.0 in
-    let l = and_parts (nat_le 1 (length e.1.results)) (nat_le (length e.1.results) 3) q.1 in
+    let rs = e.1.results in
+    let ss : List Sort = sorts_in e.1.args in
+    let k = goal_parts (nat_le (length e.1.args) 4) (is_between 1 3 (length rs)) (list_all has_kind e.1.args)
+    (list_all is_sized ss) (nat_le e.1.cost 65535) (are_sound table ss rs) (has_sound_results table ss rs)
+    (has_plain_pointers (results_in table rs)) (nat_le (accessed_bytes (results_in table rs)) 32) h in
+    let l = and_parts (nat_le 1 (length rs)) (nat_le (length rs) 3) k.second in
+    let parts = result_parts ss (results_in table rs) k.seventh in
     record {
-      few = leb-true (length e.1.args) 4 q.0;
-      some = leb-true 1 (length e.1.results) l.0;
-      results = p.1;
+      few = leb-true (length e.1.args) 4 k.first;
+      some = leb-true 1 (length rs) l.0;
+      most = leb-true (length rs) 3 l.1;
+      kinds = k.third;
+      sized = k.fourth;
+      cost = leb-true e.1.cost 65535 k.fifth;
+      results = k.sixth;
+      terms = parts.terms;
+      memory = parts.memory;
+      pointers = k.eighth;
+      bytes = leb-true (accessed_bytes (results_in table rs)) 32 k.ninth;
     }
 
-record IsSoundSpec (s : Spec) : Type 0 where
-  pointer : s.pointer ≡ s.terms.pointer
-  few : length s.ops ≤ 64
-  ops : list_all (is_sound_op s.terms) s.ops ≡ true
-  goals : list_all (is_sound_goal s.terms) s.goals ≡ true
+-- the test of a whole file, apart
+pub record IsSoundFile (p : ℕ) (table : Table) (os : List (List ℕ × OpDef))
+    (gs : List (List ℕ × GoalDef)) : Type 0 where
+  pub pointer : p ≡ table.pointer
+  pub few : length os ≤ 64
+  pub few_goals : length gs ≤ 256
+  pub short : list_all is_short_name (all_names os gs) ≡ true
+  pub apart : differ (all_names os gs) ≡ true
+  pub ops : list_all (is_sound_op table) os ≡ true
+  pub goals : list_all (is_sound_goal table) gs ≡ true
 
-sound_spec : (s : Spec) → IsSoundSpec s
-sound_spec s =
-    let w = s.pointer == s.terms.pointer in
-    let o = nat_le (length s.ops) 64 in
-    let g = nat_le (length s.goals) 256 in
-    let os = list_all (is_sound_op s.terms) s.ops in
-    let gs = list_all (is_sound_goal s.terms) s.goals in
-    let p = and_parts (w && o && g && os) gs s.sound in
-    let q = and_parts (w && o && g) os p.0 in
-    let r = and_parts (w && o) g q.0 in
-    let l = and_parts w o r.0 in
+pub sound_file : (pointer : ℕ) (table : Table) (ops : List (List ℕ × OpDef)) (goals : List (List ℕ × GoalDef))
+    → is_sound pointer table ops goals ≡ true → IsSoundFile pointer table ops goals
+sound_file pointer table ops goals h =
+    let w = pointer == table.pointer in
+    let o = nat_le (length ops) 64 in
+    let g = nat_le (length goals) 256 in
+    let n = list_all is_short_name (all_names ops goals) in
+    let d = differ (all_names ops goals) in
+    let os = list_all (is_sound_op table) ops in
+    let gs = list_all (is_sound_goal table) goals in
+    let p = and_parts (w && o && g && n && d && os) gs h in
+    let q = and_parts (w && o && g && n && d) os p.0 in
+    let r = and_parts (w && o && g && n) d q.0 in
+    let t = and_parts (w && o && g) n r.0 in
+    let u = and_parts (w && o) g t.0 in
+    let l = and_parts w o u.0 in
     record {
-      pointer = eqb-true s.pointer s.terms.pointer l.0;
-      few = leb-true (length s.ops) 64 l.1;
+      pointer = eqb-true pointer table.pointer l.0;
+      few = leb-true (length ops) 64 l.1;
+      few_goals = leb-true (length goals) 256 u.1;
+      short = t.1;
+      apart = r.1;
       ops = q.1;
       goals = p.1;
     }
+
+pub sound_spec : (s : Spec) → IsSoundFile s.pointer s.terms s.ops s.goals
+sound_spec s = sound_file s.pointer s.terms s.ops s.goals s.sound
 
 -- the file's pointers are those of its terms
 pub pointer_is : (s : Spec) → s.pointer ≡ s.terms.pointer
@@ -107,6 +207,16 @@ sort_in_file s t = ap (λ p. sort_of p t) (pointer_is s)
 
 pub few_ops : (s : Spec) → length s.ops ≤ 64
 few_ops s = let k = sound_spec s in k.few
+
+pub few_goals : (s : Spec) → length s.goals ≤ 256
+few_goals s = let k = sound_spec s in k.few_goals
+
+-- the names of operations and goals are short, and no two of them are equal
+pub names_short : (s : Spec) → list_all is_short_name (all_names s.ops s.goals) ≡ true
+names_short s = let k = sound_spec s in k.short
+
+pub names_differ : (s : Spec) → differ (all_names s.ops s.goals) ≡ true
+names_differ s = let k = sound_spec s in k.apart
 
 pub IsSoundOp_at : (s : Spec) (k : ℕ) (e : List ℕ × OpDef) → slice_get s.ops k ≡ Some e → IsSoundOp s.terms e
 IsSoundOp_at s k e h =

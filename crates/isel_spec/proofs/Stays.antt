@@ -80,7 +80,7 @@ operator-stays scope bytes o e = by_word _ _ _ _ _ _ e
     by_word false false false false false false e = absurd (none-some o e)
 
 -- the input that a name stands for has the sort in its place
-input-place : (n : ℕ) (scope : List Binding) (name : List ℕ) (o : Op) → input_named n scope name ≡ Some o →
+pub input-place : (n : ℕ) (scope : List Binding) (name : List ℕ) (o : Op) → input_named n scope name ≡ Some o →
     (k : ℕ) × (s : Sort) × (o ≡ op.Input (n + k) s) × (slice_get (sorts scope) k ≡ Some s)
 input-place n [] name o e = absurd (none-some o e)
 input-place n (b ∷ scope) name o e = by_name (bytes_eq b.0 name) e (input-place (n + 1) scope name o)

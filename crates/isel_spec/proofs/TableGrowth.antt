@@ -1,7 +1,7 @@
 -- Tables that grow: what they stood for stays, and one more definition comes last.
-use Rattle.std.proofs.Common.{◌≡◌, ℕ, ◌<◌, List, [], ◌∷◌, ◌++◌, length, map, refl, ap, ◌∙◌, subst, arith}
+use Rattle.std.proofs.Common.{◌≡◌, ℕ, ◌<◌, List, [], ◌∷◌, ◌++◌, length, map, refl, ap, sym, ◌∙◌, subst, arith}
 use Rattle.std.proofs.Common.{Bool, true, ◌&&◌, ⊎_elim}
-use Rattle.std.specs.Prelude.{nat_le, nat_lt}
+use Rattle.std.specs.Prelude.{nat_le, nat_lt, Contains}
 use Rattle.std.specs.List.{list_all}
 use Rattle.std.proofs.lemmas.Bool.{and_parts, ltb-true}
 use Rattle.std.proofs.lemmas.List.Elements.{Contains-append_cases, Contains-append_left}
@@ -9,24 +9,24 @@ use Rattle.std.proofs.lemmas.List.Elements.{Contains-push}
 use Rattle.bv_terms.specs.declared.op.TermId.{TermId}
 use Rattle.bv_terms.specs.declared.value.Sort.{Sort}
 use Rattle.bv_terms.specs.Term.{Term}
-use Rattle.bv_terms.specs.Table.{Table, terms_of, term_in, term_at}
+use Rattle.bv_terms.specs.Table.{Table, term_at}
 use Rattle.isel_spec.specs.declared.definitions.OpDef.{OpDef}
 use Rattle.isel_spec.specs.declared.definitions.GoalDef.{GoalDef}
 use Rattle.isel_spec.specs.declared.small_form.tables.Tables.{Tables}
 use Rattle.isel_spec.specs.File as file
 use Rattle.isel_spec.specs.File.{File, operation, goal, scope, stays_in, are_sound, is_between, is_sound_op}
-use Rattle.isel_spec.specs.File.{is_sound_goal}
+use Rattle.isel_spec.specs.File.{is_sound_goal, results_in, has_sound_results, has_kind, is_sized, sorts_in}
+use Rattle.isel_spec.specs.File.{all_names, is_short_name}
+use Rattle.isel_spec.specs.Memory.{subterm_count, has_memory_shape, has_plain_pointers, accessed_bytes}
 use Rattle.isel_spec.specs.Form.{HasFewTerms}
 use Rattle.isel_spec.specs.Reading.{KeepsTerms}
 use Rattle.isel_spec.specs.Tables.{file_so_far, HasFew, IsSoundSoFar}
+use Rattle.isel_spec.proofs.NameLists.{AreNames, names-with_op, names-with_goal}
 use Rattle.list_lemmas.proofs.Bools.{and-both as both, lt-true}
 use Rattle.list_lemmas.proofs.Lists.{map-push}
 use Rattle.list_lemmas.proofs.Lookups.{list_all-push as all-push, only_one}
 
 -- ---- what stood in the tables stays
-
-abbrev results_in : Table → List TermId → List Term
-results_in table ats = map (λ (at : TermId). term_in (terms_of table) at.0) ats
 
 results-kept : (old new : Table) → KeepsTerms old new → (ss : List Sort) (ats : List TermId)
     → are_sound old ss ats ≡ true
@@ -49,24 +49,61 @@ results-kept old new keeps ss (at ∷ ats) h =
 op-kept : (old new : Table) → KeepsTerms old new → (e : List ℕ × OpDef) → is_sound_op old e ≡ true
     → (is_sound_op new e ≡ true) × (operation new e ≡ operation old e)
 op-kept old new keeps e h =
-    let limits : Bool = nat_le (length e.1.args) 4 && nat_le (length e.1.attrs) 2 && is_between 1 3 (length e.1.results)
-    && list_all (is_between 1 64) e.1.attrs in
-    let parts = and_parts limits (are_sound old (scope e.1) e.1.results) h in
-    let kept = results-kept old new keeps (scope e.1) e.1.results parts.1 in
-    let with_results : List Term → file.Operation = λ rs.
-    record { name = e.0; args = e.1.args; attrs = e.1.attrs; results = rs } in
-    (both limits (are_sound new (scope e.1) e.1.results) parts.0 kept.0, ap with_results kept.1)
+    let rs = e.1.results in
+    let limits : Bool = nat_le (length e.1.args) 4 && nat_le (length e.1.attrs) 2 && is_between 1 3 (length rs)
+    && list_all is_sized e.1.args && list_all (is_between 1 64) e.1.attrs in
+    let shape : List Term → Bool = λ ts. nat_le (subterm_count ts) 256 && has_memory_shape e.1.args ts in
+    let last = and_parts (limits && are_sound old (scope e.1) rs) (has_sound_results old e.1.args rs) h in
+    let parts = and_parts limits (are_sound old (scope e.1) rs) last.0 in
+    let kept = results-kept old new keeps (scope e.1) rs parts.1 in
+    let shaped : has_sound_results new e.1.args rs ≡ true = ap shape kept.1 ∙ last.1 in
+    let with_results : List Term → file.Operation = λ ts.
+    record { name = e.0; args = e.1.args; attrs = e.1.attrs; results = ts } in (
+      both (limits && are_sound new (scope e.1) rs) (has_sound_results new e.1.args rs)
+          (both limits (are_sound new (scope e.1) rs) parts.0 kept.0) shaped,
+      ap with_results kept.1,
+    )
+
+-- the parts of the test of a goal, from the last to the first
+record HasGoalParts (a b c d e : Bool) : Type 0 where
+  limits : a ≡ true
+  sound : b ≡ true
+  shape : c ≡ true
+  pointers : d ≡ true
+  bytes : e ≡ true
+
+goal_parts : (a b c d e : Bool) → (a && b && c && d && e) ≡ true → HasGoalParts a b c d e
+goal_parts a b c d e h =
+    let p = and_parts (a && b && c && d) e h in
+    let q = and_parts (a && b && c) d p.0 in
+    let r = and_parts (a && b) c q.0 in
+    let l = and_parts a b r.0 in
+    record { limits = l.0; sound = l.1; shape = r.1; pointers = q.1; bytes = p.1 }
+
+goal_whole : (a b c d e : Bool) → a ≡ true → b ≡ true → c ≡ true → d ≡ true → e ≡ true
+    → (a && b && c && d && e) ≡ true
+goal_whole a b c d e h k l m n =
+    both (a && b && c && d) e (both (a && b && c) d (both (a && b) c (both a b h k) l) m) n
 
 goal-kept : (old new : Table) → KeepsTerms old new → (e : List ℕ × GoalDef) → is_sound_goal old e ≡ true
     → (is_sound_goal new e ≡ true) × (goal new e ≡ goal old e)
 goal-kept old new keeps e h =
-    let sorts : List Sort = map (λ a. a.1) e.1.args in
-    let limits : Bool = nat_le (length e.1.args) 4 && is_between 1 3 (length e.1.results) in
-    let parts = and_parts limits (are_sound old sorts e.1.results) h in
-    let kept = results-kept old new keeps sorts e.1.results parts.1 in
-    let with_results : List Term → file.Goal = λ rs.
-    record { name = e.0; kinds = map (λ a. a.0) e.1.args; args = sorts; cost = e.1.cost; results = rs } in
-    (both limits (are_sound new sorts e.1.results) parts.0 kept.0, ap with_results kept.1)
+    let sorts : List Sort = sorts_in e.1.args in
+    let rs = e.1.results in
+    let limits : Bool = nat_le (length e.1.args) 4 && is_between 1 3 (length rs) && list_all has_kind e.1.args
+    && list_all is_sized sorts && nat_le e.1.cost 65535 in
+    let shape : List Term → Bool = λ ts. nat_le (subterm_count ts) 256 && has_memory_shape sorts ts in
+    let parts = goal_parts limits (are_sound old sorts rs) (has_sound_results old sorts rs)
+    (has_plain_pointers (results_in old rs)) (nat_le (accessed_bytes (results_in old rs)) 32) h in
+    let kept = results-kept old new keeps sorts rs parts.sound in
+    let with_results : List Term → file.Goal = λ ts.
+    record { name = e.0; kinds = map (λ a. a.0) e.1.args; args = sorts; cost = e.1.cost; results = ts } in (
+      goal_whole limits (are_sound new sorts rs) (has_sound_results new sorts rs)
+          (has_plain_pointers (results_in new rs)) (nat_le (accessed_bytes (results_in new rs)) 32)
+          parts.limits kept.0 (ap shape kept.1 ∙ parts.shape) (ap has_plain_pointers kept.1 ∙ parts.pointers)
+          (ap (λ ts. nat_le (accessed_bytes ts) 32) kept.1 ∙ parts.bytes),
+      ap with_results kept.1,
+    )
 
 ops-kept : (old new : Table) → KeepsTerms old new → (es : List (List ℕ × OpDef)) → list_all (is_sound_op old) es ≡ true
     → (list_all (is_sound_op new) es ≡ true) × (map (operation new) es ≡ map (operation old) es)
@@ -100,10 +137,17 @@ pub record StandFor (tables : Tables) (f : File) : Type 0 where
   pub sound : IsSoundSoFar tables
   pub is : file_so_far tables ≡ f
 
+names_so_far : (tables : Tables) → IsSoundSoFar tables → AreNames (all_names tables.ops tables.goals)
+names_so_far tables sound = record { short = sound.short; apart = sound.apart }
+
 pub one-more_op : (old new : Tables) (e : List ℕ × OpDef) → KeepsTerms old.terms new.terms → IsSoundSoFar old
     → new.ops ≡ old.ops ++ e ∷ [] → new.goals ≡ old.goals → is_sound_op new.terms e ≡ true
+    → is_short_name e.0 ≡ true → (Contains (all_names old.ops old.goals) e.0 → ⊥)
     → StandFor new (and_operation (file_so_far old) (operation new.terms e))
-one-more_op old new e keeps sound ops goals h =
+one-more_op old new e keeps sound ops goals h short absent =
+    let named = names-with_op old.ops old.goals e (names_so_far old sound) short absent in
+    let names : AreNames (all_names new.ops new.goals) =
+    subst AreNames (λ i. all_names (sym ops i) (sym goals i)) named in
     let before = ops-kept old.terms new.terms keeps old.ops sound.ops in
     let beside = goals-kept old.terms new.terms keeps old.goals sound.goals in
     let ops_are : map (operation new.terms) new.ops ≡ map (operation old.terms) old.ops ++ operation new.terms e ∷ [] =
@@ -115,14 +159,20 @@ one-more_op old new e keeps sound ops goals h =
       sound = record {
         ops = ap (list_all (is_sound_op new.terms)) ops ∙ all-push (is_sound_op new.terms) old.ops e before.0 h;
         goals = ap (list_all (is_sound_goal new.terms)) goals ∙ beside.0;
+        short = names.short;
+        apart = names.apart;
       };
       is = λ i. record { pointer = keeps.pointer i; ops = ops_are i; goals = goals_are i };
     }
 
 pub one-more_goal : (old new : Tables) (e : List ℕ × GoalDef) → KeepsTerms old.terms new.terms → IsSoundSoFar old
     → new.goals ≡ old.goals ++ e ∷ [] → new.ops ≡ old.ops → is_sound_goal new.terms e ≡ true
+    → is_short_name e.0 ≡ true → (Contains (all_names old.ops old.goals) e.0 → ⊥)
     → StandFor new (and_goal (file_so_far old) (goal new.terms e))
-one-more_goal old new e keeps sound goals ops h =
+one-more_goal old new e keeps sound goals ops h short absent =
+    let named = names-with_goal old.ops old.goals e (names_so_far old sound) short absent in
+    let names : AreNames (all_names new.ops new.goals) =
+    subst AreNames (λ i. all_names (sym ops i) (sym goals i)) named in
     let before = goals-kept old.terms new.terms keeps old.goals sound.goals in
     let beside = ops-kept old.terms new.terms keeps old.ops sound.ops in
     let goals_are : map (goal new.terms) new.goals ≡ map (goal old.terms) old.goals ++ goal new.terms e ∷ [] =
@@ -135,6 +185,8 @@ one-more_goal old new e keeps sound goals ops h =
         ops = ap (list_all (is_sound_op new.terms)) ops ∙ beside.0;
         goals = ap (list_all (is_sound_goal new.terms)) goals
             ∙ all-push (is_sound_goal new.terms) old.goals e before.0 h;
+        short = names.short;
+        apart = names.apart;
       };
       is = λ i. record { pointer = keeps.pointer i; ops = ops_are i; goals = goals_are i };
     }

@@ -21,12 +21,13 @@ use Rattle.bv_terms.specs.WellSorted.{sort_of}
 use Rattle.bv_terms.specs.Subterm.{IsSubterm}
 use Rattle.sexp_read.specs.Tree.{Tree, Trees, Word, Branch, End, Then, flatten, depth, depth_limit}
 use Rattle.sexp_read.specs.Token.{is_text_byte, tokens}
+use Rattle.sexp_read.specs.Words.{numeral_between}
 use Rattle.isel_spec.specs.declared.definitions.Kind.TheVariants as kind
 use Rattle.isel_spec.specs.declared.small_form.subject.Subject.{Subject}
 use Rattle.isel_spec.specs.declared.small_form.subject.Subject.TheVariants.{Operation, Goal}
 use Rattle.isel_spec.specs.File as file
-use Rattle.isel_spec.specs.File.{File, is_between}
-use Rattle.isel_spec.specs.Text.{numeral, is_name, literal, each}
+use Rattle.isel_spec.specs.File.{File, is_between, is_short_name, differ}
+use Rattle.isel_spec.specs.Text.{literal, each}
 
 -- the value, where a condition holds
 abbrev pub where_true : {A : Type 0} → Bool → A → Option A
@@ -144,7 +145,7 @@ application_in view node = do
 abbrev pub sort_from : List ℕ → List ℕ → List ℕ → Option Sort
 sort_from underscore family width =
     if bytes_eq underscore (codes "_") && bytes_eq family (codes "BitVec")
-    then option_map (λ w. sort.Bits w) (numeral 1 64 width)
+    then option_map (λ w. sort.Bits w) (numeral_between 1 64 width)
     else None
 
 abbrev pub sort_in : {N : Type 0} → View N → N → Option Sort
@@ -159,7 +160,7 @@ sort_in view node = do
 -- `(NAME SORT)`
 abbrev pub binding : List ℕ → Option Sort → Option Binding
 binding name None = None
-binding name (Some s) = where_true (is_name name) (name, s)
+binding name (Some s) = where_true (is_short_name name) (name, s)
 
 abbrev pub arg_in : {N : Type 0} → View N → N → Option Binding
 arg_in view node = do
@@ -181,11 +182,6 @@ abbrev pub binding_in : {N : Type 0} → Subject → View N → N → Option Bin
 binding_in Operation view node = arg_in view node
 binding_in Goal view node = goal_arg_in view node
 
--- no two are equal
-abbrev pub differ : List (List ℕ) → Bool
-differ [] = true
-differ (name ∷ names) = not (list_any (bytes_eq name) names) && differ names
-
 -- at most four arguments, under names that differ
 abbrev pub scope_of : List Binding → Option (List Binding)
 scope_of bs = where_true (nat_le (length bs) 4 && differ (map (λ b. b.0) bs)) bs
@@ -200,7 +196,7 @@ pub record Parts (Node : Type 0) : Type 0 where
 -- an operation's attributes, of which it has none, or a goal's cost
 abbrev pub cost_in : {N : Type 0} → Subject → View N → N → Option ℕ
 cost_in Operation view node = view.members node >>= none_of
-cost_in Goal view node = view.word node >>= numeral 0 65535
+cost_in Goal view node = view.word node >>= numeral_between 0 65535
 
 -- `NAME (arg*) () (TERM)` for an operation, `NAME (garg*) COST (TERM)` for a goal
 abbrev pub parts_in : {N : Type 0} → Subject → View N → List N → Option (Parts N)
@@ -211,7 +207,7 @@ parts_in subject view nodes = do
   cost ← cost_in subject view parts.2
   results ← view.members parts.3
   result ← one_of results
-  where_true (is_name name) (record { name = name; args = args; cost = cost; result = result })
+  where_true (is_short_name name) (record { name = name; args = args; cost = cost; result = result })
 
 -- the arguments of a definition, and its result, where a pointer has p bits
 abbrev pub body_in : ℕ → Subject → List Tree → Tree → Option (List Binding × Term)
@@ -287,7 +283,7 @@ pointer_in view node = do
   head ← view.word parts.0
   version ← view.word parts.1
   pointer ← view.word parts.2
-  if bytes_eq head (codes "isel-spec") && bytes_eq version (codes "1") then numeral 1 64 pointer else None
+  if bytes_eq head (codes "isel-spec") && bytes_eq version (codes "1") then numeral_between 1 64 pointer else None
 
 -- one to six operations, and one goal with at most 12 bits of inputs
 abbrev pub is_small : List file.Operation → List file.Goal → Bool

@@ -7,3 +7,4 @@ pub mod Reading
 pub mod Fault
 pub mod Nodes
 pub mod Tables
+pub mod Memory

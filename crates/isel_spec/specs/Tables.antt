@@ -6,7 +6,8 @@ use Rattle.bv_terms.specs.Term.{Term}
 use Rattle.bv_terms.specs.Table.{Table, term_at}
 use Rattle.isel_spec.specs.declared.small_form.tables.Tables.{Tables}
 use Rattle.isel_spec.specs.File as file
-use Rattle.isel_spec.specs.File.{File, operation, goal, stays_in, is_sound_op, is_sound_goal}
+use Rattle.isel_spec.specs.File.{File, operation, goal, stays_in, is_sound_op, is_sound_goal, is_short_name, differ}
+use Rattle.isel_spec.specs.File.{all_names}
 use Rattle.isel_spec.specs.Form.{Binding, HasFewTerms}
 
 -- the file that the tables stand for
@@ -22,10 +23,12 @@ pub record HasFew (f : File) : Type 0 where
   pub in_ops : (o : file.Operation) → Contains f.ops o → HasFewTerms o.results
   pub in_goals : (g : file.Goal) → Contains f.goals g → HasFewTerms g.results
 
--- each operation and each goal has results that stand in the table of terms, with inputs of its own
+-- each operation and each goal is sound, under a short name of its own
 pub record IsSoundSoFar (tables : Tables) : Type 0 where
   pub ops : list_all (is_sound_op tables.terms) tables.ops ≡ true
   pub goals : list_all (is_sound_goal tables.terms) tables.goals ≡ true
+  pub short : list_all is_short_name (all_names tables.ops tables.goals) ≡ true
+  pub apart : differ (all_names tables.ops tables.goals) ≡ true
 
 -- what is said of a definition's arguments and result are these, the result without other inputs
 pub record IsBody (table : Table) (said : Option (List Binding × Term)) (scope : List Binding)

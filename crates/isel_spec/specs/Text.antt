@@ -1,55 +1,11 @@
--- The words of a file's text: numerals, names and literals. Literals are those of SMT-LIB 2.6, section 3.1; the rest is
--- this project's own.
-use Rattle.std.specs.Prelude.{ℕ, ◌+◌, ◌-◌, ◌*◌, ◌^◌, List, [], ◌∷◌, length, fold, map, Option, Some, None, Bool}
-use Rattle.std.specs.Prelude.{false, ◌&&◌, ◌||◌, ◌==◌, not, nat_le, if◌then◌else◌, codes, option_and_then, option_map}
-use Rattle.std.specs.List.{list_all}
-use Rattle.std.specs.Str.{bytes_eq}
+-- The literals of a file's text: those of SMT-LIB 2.6, section 3.1.
+use Rattle.std.specs.Prelude.{ℕ, ◌-◌, ◌*◌, ◌^◌, List, [], ◌∷◌, length, Option, Some, None, ◌&&◌, ◌==◌}
+use Rattle.std.specs.Prelude.{if◌then◌else◌, option_and_then, option_map}
 use Rattle.bv_terms.specs.declared.op.Op.{Op}
 use Rattle.bv_terms.specs.declared.op.Op.TheVariants as op
+use Rattle.sexp_read.specs.Words.{is_between, is_digit, number_in}
 use Rattle.isel_spec.specs.declared.small_form.words.Base.{Base}
 use Rattle.isel_spec.specs.declared.small_form.words.Base.TheVariants.{Binary, Hexadecimal}
-use Rattle.isel_spec.specs.File.{is_between}
-
-abbrev pub is_digit : ℕ → Bool
-is_digit b = is_between 48 57 b
-
-abbrev pub is_letter : ℕ → Bool
-is_letter b = is_between 65 90 b || is_between 97 122 b
-
--- the number of digits in a base
-abbrev pub number_in : ℕ → List ℕ → ℕ
-number_in base digits = fold (λ n digit. base * n + digit) 0 digits
-
--- `0`, or digits without a leading zero
-abbrev pub is_numeral : List ℕ → Bool
-is_numeral [] = false
-is_numeral (b ∷ []) = is_digit b
-is_numeral (b ∷ c ∷ rest) = not (b == 48) && list_all is_digit (b ∷ c ∷ rest)
-
--- the number that a numeral stands for
-abbrev pub decimal : List ℕ → ℕ
-decimal bytes = number_in 10 (map (λ b. b - 48) bytes)
-
--- a numeral between two numbers
-abbrev pub numeral : ℕ → ℕ → List ℕ → Option ℕ
-numeral low high bytes = if is_numeral bytes && is_between low high (decimal bytes) then Some (decimal bytes) else None
-
-abbrev pub is_name_byte : ℕ → Bool
-is_name_byte b = is_letter b || is_digit b || (b == 95) || (b == 46) || (b == 45)
-
-abbrev pub starts_with_letter : List ℕ → Bool
-starts_with_letter [] = false
-starts_with_letter (b ∷ rest) = is_letter b
-
-abbrev pub has_name_bytes : List ℕ → Bool
-has_name_bytes bytes = starts_with_letter bytes && list_all is_name_byte bytes
-
-abbrev pub is_truth_value : List ℕ → Bool
-is_truth_value bytes = bytes_eq bytes (codes "true") || bytes_eq bytes (codes "false")
-
--- a letter, then letters, digits, `_`, `.` and `-`; neither of the truth values; at most 64 bytes
-abbrev pub is_name : List ℕ → Bool
-is_name bytes = has_name_bytes bytes && not (is_truth_value bytes) && nat_le (length bytes) 64
 
 -- the value of a hexadecimal digit, of either case
 abbrev pub hex_digit : ℕ → Option ℕ

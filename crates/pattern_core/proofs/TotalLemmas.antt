@@ -1,14 +1,13 @@
 -- The order of patterns is total, and only equal patterns of a goal are `Equal`.
 use Rattle.std.proofs.Common.{◌≡◌, ℕ, ◌<◌, ◌≤◌, true, ◌&&◌, List, [], ◌∷◌, length, map}
 use Rattle.std.proofs.Common.{Option, Some, None, refl, sym, ap, ◌∙◌, subst, arith, slice_get}
-use Rattle.std.specs.Prelude.{nat_lt, nat_le, ◌==◌, option_and_then, IsSome}
-use Rattle.std.specs.List.{list_all}
+use Rattle.std.specs.Prelude.{nat_lt, option_and_then, IsSome}
 use Rattle.std.specs.Cmp.{IsTotalOrder, nat_cmp_total, on_total, then_total}
 use Rattle.std.specs.Cmp.Lexicographic.{lists_total, nat_list_cmp_total, slice_cmp}
 use Rattle.std.specs.FinMap.{nat_cmp-IsAntisymmetric, slice_cmp-IsAntisymmetric}
 use Rattle.std.specs.Ordering.{nat_cmp, ordering_then}
 use Rattle.std.specs.declared.cmp.Ordering.TheVariants.{Equal}
-use Rattle.std.proofs.lemmas.Bool.{and_parts, leb-true, ltb-true, false≢true}
+use Rattle.std.proofs.lemmas.Bool.{and_parts, ltb-true, false≢true}
 use Rattle.std.proofs.lemmas.List.{length-map}
 use Rattle.std.proofs.lemmas.Option.{slice_get_within, slice_get-get_or, unwrap_or-slice_get}
 use Rattle.bv_terms.specs.declared.op.TermId.{TermId}
@@ -16,22 +15,20 @@ use Rattle.bv_terms.specs.declared.value.Sort.{Sort}
 use Rattle.bv_terms.specs.Term.{Term}
 use Rattle.bv_terms.specs.WellSorted.{sort_of}
 use Rattle.bv_terms.specs.Table.{Table, IsTable, terms_of, term_in}
-use Rattle.isel_spec.specs.declared.definitions.OpDef.{OpDef}
 use Rattle.isel_spec.specs.declared.definitions.GoalDef.{GoalDef}
 use Rattle.isel_spec.specs.declared.spec.Spec.{Spec}
-use Rattle.isel_spec.specs.File.{File, Operation, Goal, operation, goal, are_sound, stays_in, scope, is_between}
-use Rattle.isel_spec.specs.File.{is_sound_op, is_sound_goal}
+use Rattle.isel_spec.specs.File.{File, Operation, Goal, operation, goal, are_sound, stays_in}
 use Rattle.isel_spec.specs.Spec.{file}
 use Rattle.pattern_core.specs.declared.pattern.Src.{Src}
 use Rattle.pattern_core.specs.declared.pattern.Src.TheVariants.{Input, Out}
 use Rattle.pattern_core.specs.declared.pattern.Node.{Node}
 use Rattle.pattern_core.specs.declared.pattern.Pattern.{Pattern}
-use Rattle.isel_spec.proofs.SpecLemmas.{pointer_is}
+use Rattle.isel_spec.proofs.SpecLemmas.{pointer_is, IsSoundGoal, IsSoundOp_at, IsSoundGoal_at}
 use Rattle.pattern_core.specs.Pattern.{operation_sort, source_sort, IsWellFormed}
 use Rattle.pattern_core.specs.Order.{source_number, source_cmp, node_cmp, multiset, pattern_cmp, IsTotalOrderOf}
 use Rattle.bv_terms.proofs.TableLemmas.{length-terms_of}
 use Rattle.list_lemmas.proofs.Lists.{Each}
-use Rattle.list_lemmas.proofs.Lookups.{each_from_places, list_all_at, mapped_at}
+use Rattle.list_lemmas.proofs.Lookups.{each_from_places, mapped_at}
 use Rattle.list_lemmas.proofs.Options.{bind-first as is_some, cond-some as in_then}
 use Rattle.list_lemmas.proofs.Orders.{same_lists, then_first, then_second}
 
@@ -183,40 +180,13 @@ is_total_order f g limits = record {
 
 -- ---- what a `Spec` keeps
 
-at_most_three : (table : Table) (e : List ℕ × OpDef) → is_sound_op table e ≡ true → length e.1.results ≤ 3
-at_most_three table e h =
-    let a = nat_le (length e.1.args) 4 in
-    let b = nat_le (length e.1.attrs) 2 in
-    let n = is_between 1 3 (length e.1.results) in
-    let w = list_all (is_between 1 64) e.1.attrs in
-    let p = and_parts (a && b && n && w) (are_sound table (scope e.1) e.1.results) h in
-    let q = and_parts (a && b && n) w p.0 in
-    let m = and_parts (a && b) n q.0 in
-    leb-true (length e.1.results) 3 (and_parts (nat_le 1 (length e.1.results)) (nat_le (length e.1.results) 3) m.1).1
-
 few_results : (s : Spec) (k : ℕ) (o : Operation) → slice_get (file s).ops k ≡ Some o → length o.results ≤ 3
 few_results s k o e =
     let at = mapped_at (operation s.terms) s.ops k o e in
-    let v = s.pointer == s.terms.pointer in
-    let n = nat_le (length s.ops) 64 in
-    let m = nat_le (length s.goals) 256 in
-    let os = list_all (is_sound_op s.terms) s.ops in
-    let gs = list_all (is_sound_goal s.terms) s.goals in
-    let sound = (and_parts (v && n && m) os (and_parts (v && n && m && os) gs s.sound).0).1 in
-    let three = at_most_three s.terms at.0 (list_all_at (is_sound_op s.terms) s.ops k at.0 sound at.1) in
+    let sound = IsSoundOp_at s k at.0 at.1 in
+    let three = sound.most in
     subst (λ (p : Operation). length p.results ≤ 3) at.2
     (subst (λ n. n ≤ 3) (sym (length-map at.0.1.results (λ (a : TermId). term_in (terms_of s.terms) a.0))) three)
-
-record IsSoundGoal (table : Table) (e : List ℕ × GoalDef) : Type 0 where
-  few : length e.1.args ≤ 4
-  results : are_sound table (map (λ a. a.1) e.1.args) e.1.results ≡ true
-
-sound_goal : (table : Table) (e : List ℕ × GoalDef) → is_sound_goal table e ≡ true → IsSoundGoal table e
-sound_goal table e h =
-    let a = nat_le (length e.1.args) 4 in
-    let n = is_between 1 3 (length e.1.results) in
-    let p = and_parts (a && n) (are_sound table (map (λ x. x.1) e.1.args) e.1.results) h in
-    record { few = leb-true (length e.1.args) 4 (and_parts a n p.0).0; results = p.1 }
 
 term_there : (ts : List Term) (k : ℕ) → k < length ts → slice_get ts k ≡ Some (term_in ts k)
 term_there ts k l =
@@ -238,25 +208,18 @@ sorted_results table is ss (at ∷ ats) h =
     (term_there (terms_of table) at.0 (omega (arith, within, long))) in
     (first, sorted_results table is ss ats both.1)
 
-limited_goal : (table : Table) → IsTable table → (e : List ℕ × GoalDef) → is_sound_goal table e ≡ true
+limited_goal : (table : Table) → IsTable table → (e : List ℕ × GoalDef) → IsSoundGoal table e
     → (length (goal table e).args ≤ 4) × Each (λ (t : Term). IsSome (sort_of table.pointer t)) (goal table e).results
-limited_goal table is e h =
-    let k = sound_goal table e h in (
-      subst (λ n. n ≤ 4) (sym (length-map e.1.args (λ a. a.1))) k.few,
-      sorted_results table is (map (λ a. a.1) e.1.args) e.1.results k.results,
-    )
+limited_goal table is e sound = (
+  subst (λ n. n ≤ 4) (sym (length-map e.1.args (λ a. a.1))) sound.few,
+  sorted_results table is (map (λ a. a.1) e.1.args) e.1.results sound.results,
+)
 
 pub IsLimited-from_spec : (s : Spec) (k : ℕ) (g : Goal) → IsTable s.terms → slice_get (file s).goals k ≡ Some g
     → IsLimited (file s) g
 IsLimited-from_spec s k g table e =
     let at = mapped_at (goal s.terms) s.goals k g e in
-    let v = s.pointer == s.terms.pointer in
-    let n = nat_le (length s.ops) 64 in
-    let m = nat_le (length s.goals) 256 in
-    let os = list_all (is_sound_op s.terms) s.ops in
-    let gs = list_all (is_sound_goal s.terms) s.goals in
-    let sound = (and_parts (v && n && m && os) gs s.sound).1 in
-    let limits = limited_goal s.terms table at.0 (list_all_at (is_sound_goal s.terms) s.goals k at.0 sound at.1) in
+    let limits = limited_goal s.terms table at.0 (IsSoundGoal_at s k at.0 at.1) in
     record {
       args = subst (λ (x : Goal). length x.args ≤ 4) at.2 limits.0;
       sorted =

@@ -75,7 +75,7 @@ forest-in bytes trees e =
 
 -- an item that stands among others stands for its tree
 mutual
-  denotes-tree : (bytes : List ℕ) (items before after : List Item) (number place : ℕ) (tree : Tree) →
+  pub denotes-tree : (bytes : List ℕ) (items before after : List Item) (number place : ℕ) (tree : Tree) →
       items ≡ before ++ (tree_items number tree ++ after) → length before ≡ number → TreeIn bytes place tree
       → Denotes bytes items number tree
   denotes-tree bytes items before after number place (Word first word) e n h = (
@@ -114,7 +114,7 @@ forest-denotes bytes trees forest h =
     (denotes-trees bytes forest.items [] [] 0 0 trees (h.items ∙ sym (append-nil (items_of 0 trees))) refl
     (forest-in bytes trees h.spelled))
 
-same-item : (x y : Item) → Some x ≡ Some y → (x.from ≡ y.from) × (x.to ≡ y.to) × (x.body ≡ y.body)
+pub same-item : (x y : Item) → Some x ≡ Some y → (x.from ≡ y.from) × (x.to ≡ y.to) × (x.body ≡ y.body)
 same-item x y e =
     let same : x ≡ y = cc in
     (ap (λ (i : Item). i.from) same, ap (λ (i : Item). i.to) same, ap (λ (i : Item). i.body) same)

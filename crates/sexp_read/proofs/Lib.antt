@@ -7,3 +7,6 @@ pub mod SpanLemmas
 pub mod ForestLemmas
 pub mod FaultLemmas
 pub mod ReaderLemmas
+pub mod TreeAtLemmas
+pub mod NumeralLemmas
+pub mod NameLemmas

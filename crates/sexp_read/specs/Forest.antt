@@ -1,6 +1,6 @@
 -- Which forest a text is, and what an item of it stands for.
-use Rattle.std.specs.Prelude.{◌≡◌, ℕ, ◌+◌, ◌≤◌, List, [], ◌∷◌, ◌++◌, length, Option, Some, None, slice_get, slice_range}
-use Rattle.std.specs.Prelude.{option_map, option_and_then, IsTrue}
+use Rattle.std.specs.Prelude.{◌≡◌, ℕ, zero, suc, ◌+◌, ◌≤◌, List, [], ◌∷◌, ◌++◌, length, Option, Some, None}
+use Rattle.std.specs.Prelude.{slice_get, slice_range, option_map, option_and_then, IsTrue}
 use Rattle.std.specs.List.{list_all}
 use Rattle.sexp_read.specs.declared.forest.Forest.{Forest}
 use Rattle.sexp_read.specs.declared.forest.Item.{Item}
@@ -86,3 +86,26 @@ abbrev pub head_at : List ℕ → List Item → ℕ → Option (List ℕ)
 head_at bytes items number =
     option_and_then (λ (children : List ℕ). option_and_then (atom_at bytes items) (slice_get children 0))
     (children_at items number)
+
+-- the trees that items stand for
+abbrev pub trees_by : (ℕ → Tree) → List ℕ → Trees
+trees_by tree_by [] = End
+trees_by tree_by (number ∷ numbers) = Then (tree_by number) (trees_by tree_by numbers)
+
+-- the tree of an item, by those of its children; past the last item, where no child leads, some tree
+abbrev pub body_tree : (ℕ → Tree) → List ℕ → Item → Body → Tree
+body_tree tree_by bytes item body.Atom = Word item.from (text_of bytes item)
+body_tree tree_by bytes item (body.List children) = Branch item.from item.to (trees_by tree_by children)
+
+abbrev pub item_tree : (ℕ → Tree) → List ℕ → Option Item → Tree
+item_tree tree_by bytes None = Word 0 []
+item_tree tree_by bytes (Some item) = body_tree tree_by bytes item item.body
+
+-- The tree that an item stands for, seen so many lists deep. In a reading no list is nested deeper than there are
+-- items.
+abbrev pub tree_within : ℕ → List ℕ → List Item → ℕ → Tree
+tree_within zero bytes items number = Word 0 []
+tree_within (suc depth) bytes items number = item_tree (tree_within depth bytes items) bytes (slice_get items number)
+
+unfoldable pub tree_at : List ℕ → List Item → ℕ → Tree
+tree_at bytes items number = tree_within (length items) bytes items number

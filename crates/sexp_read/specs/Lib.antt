@@ -4,3 +4,4 @@ pub mod Tree
 pub mod Forest
 pub mod Fault
 pub mod Progress
+pub mod Words

@@ -1,5 +1,5 @@
 -- Trees of words and lists, and the tokens that spell them.
-use Rattle.std.specs.Prelude.{ℕ, ◌+◌, max, List, [], ◌∷◌, ◌++◌}
+use Rattle.std.specs.Prelude.{ℕ, ◌+◌, max, List, [], ◌∷◌, ◌++◌, length, Option, Some, None}
 use Rattle.sexp_read.specs.Token.{Token, Open, Close, Atom}
 
 -- A word, with the place of its first byte and its bytes; or a list, with the place of its `(`, the
@@ -46,3 +46,25 @@ abbrev mutual
 -- how deep the lists of a text may be nested
 abbrev pub depth_limit : ℕ
 depth_limit = 256
+
+-- a tree's span: the place of its first byte, and the place after its last
+abbrev pub from_of : Tree → ℕ
+from_of (Word first bytes) = first
+from_of (Branch from to members) = from
+
+abbrev pub to_of : Tree → ℕ
+to_of (Word first bytes) = first + length bytes
+to_of (Branch from to members) = to
+
+-- the bytes of a word, and the members of a list
+abbrev pub list_of : Trees → List Tree
+list_of End = []
+list_of (Then tree trees) = tree ∷ list_of trees
+
+abbrev pub word_of : Tree → Option (List ℕ)
+word_of (Word first bytes) = Some bytes
+word_of (Branch from to members) = None
+
+abbrev pub members_of : Tree → Option (List Tree)
+members_of (Word first bytes) = None
+members_of (Branch from to members) = Some (list_of members)

@@ -1,9 +1,10 @@
 //! What is read of a text, with its accessors. Items are numbered in the order of their first bytes,
 //! so the members of a list have greater numbers than the list.
 
-ghost use Rattle.std.specs.Prelude.{◌≡◌, ℕ, ◌<◌, ◌≤◌, ◌↔◌, List, Some, length, IsTrue, IfSome, option_map};
+ghost use Rattle.std.specs.Prelude.{◌≡◌, ℕ, ◌<◌, ◌≤◌, ◌↔◌, List, Some, length, IsTrue, IfSome, map, option_map};
 ghost use Rattle.std.specs.List.{All};
-ghost use Rattle.sexp_read.specs.Forest.{IsReading, text_at, atom_at, children_at, head_at};
+ghost use Rattle.sexp_read.specs.Tree.{from_of, to_of, word_of, members_of};
+ghost use Rattle.sexp_read.specs.Forest.{IsReading, text_at, atom_at, children_at, head_at, tree_at};
 
 use collections::Seq;
 
@@ -60,9 +61,10 @@ impl Forest {
     pub fn atom<'a>(&self, bytes: &'a [u8], item: usize) -> Option<&'a [u8]>
         requires reading { IsReading bytes.now self.now }
         requires item_in { item < length self.now.items }
-        ensures { option_map (λ text. text.now) result ≡ atom_at bytes.now self.now.items item }
+        ensures value { option_map (λ text. text.now) result ≡ atom_at bytes.now self.now.items item }
+        ensures word { option_map (λ text. text.now) result ≡ word_of (tree_at bytes.now self.now.items item) }
     {
-        match self.items.as_slice()[item].body {
+        match &self.items.as_slice()[item].body {
             Body::Atom => Some(self.text(bytes, item)),
             Body::List { .. } => None,
         }
@@ -72,7 +74,11 @@ impl Forest {
     pub fn children(&self, item: usize) -> Option<&[usize]>
         requires { item < length self.now.items }
         ensures members { option_map (λ children. children.now) result ≡ children_at self.now.items item }
-        // In the reading of a text they come after the list.
+        // In the reading of a text they stand for the members of its tree.
+        ensures trees { (bytes : List ℕ) → IsReading bytes self.now →
+            option_map (λ children. map (tree_at bytes self.now.items) children.now) result
+            ≡ members_of (tree_at bytes self.now.items item) }
+        // There they come after the list.
         ensures later { (bytes : List ℕ) → IsReading bytes self.now →
             IfSome result (λ children. All (λ child. (item < child) × (child < length self.now.items)) children.now) }
     {
@@ -80,6 +86,17 @@ impl Forest {
             Body::Atom => None,
             Body::List { children } => Some(children.as_slice()),
         }
+    }
+
+    /// The span of an item: the place of its first byte, and the place after its last.
+    pub fn span(&self, item: usize) -> (usize, usize)
+        requires { item < length self.now.items }
+        ensures { (bytes : List ℕ) → IsReading bytes self.now →
+            (result.0 ≡ from_of (tree_at bytes self.now.items item))
+            × (result.1 ≡ to_of (tree_at bytes self.now.items item)) }
+    {
+        let found = &self.items.as_slice()[item];
+        (found.from, found.to)
     }
 
     /// Whether an item is a list whose first member is the atom with these bytes.

@@ -5,6 +5,8 @@
 //! are which forest, and which fault comes where they are none, stands in `specs/`: `Lexical` says by place
 //! what the tokens of a text are and `Token` computes them, and from these it goes by `Tree` and `Forest`
 //! to `Fault`. `Progress` is for the reader's own functions.
+//!
+//! `words` has the words that more than one text has: numerals and names.
 #![tactic(auto)]
 
 mod builder;
@@ -12,7 +14,9 @@ mod fault;
 mod forest;
 mod reader;
 mod token;
+mod words;
 
 pub use fault::SexpFault;
 pub use forest::{Body, Forest, Item};
-pub use reader::{one_fault, one_reading, read};
+pub use reader::{item_trees, one_fault, one_reading, read};
+pub use words::{is_name, is_numeral, name, numeral, numeral_between};

@@ -1,11 +1,12 @@
 //! The one pass over the bytes. Before each byte the reader has built the tokens that ended before it,
 //! and knows whether a word or a comment goes on.
 
-ghost use Rattle.std.specs.Prelude.{◌≡◌, ◌≢◌, ℕ, ◌+◌, ◌^◌, ◌<◌, ◌≤◌, ◌⊎◌, List, length, OnOk, IfOk, IfErr, IsOkUnless};
+ghost use Rattle.std.specs.Prelude.{◌≡◌, ◌≢◌, ℕ, ◌+◌, ◌^◌, ◌<◌, ◌≤◌, ◌⊎◌, List, length, map, OnOk, IfOk, IfErr};
+ghost use Rattle.std.specs.Prelude.{IsOkUnless};
 ghost use Rattle.sexp_read.specs.Token.{Token, tokens};
 ghost use Rattle.sexp_read.specs.Lexical.{AreTokens};
-ghost use Rattle.sexp_read.specs.Tree.{Trees, flatten};
-ghost use Rattle.sexp_read.specs.Forest.{IsReading};
+ghost use Rattle.sexp_read.specs.Tree.{Trees, flatten, list_of};
+ghost use Rattle.sexp_read.specs.Forest.{IsForest, IsReading, Denotes, tree_at};
 ghost use Rattle.sexp_read.specs.Fault.{IsFault, IsButForMemory};
 ghost use Rattle.sexp_read.specs.Progress.{HasRead, HasClass, HasBuilt, IsBuilt, ReadsOn, Refuses};
 
@@ -195,4 +196,13 @@ pub fn one_fault()
         IsReading bytes forest → IsFault bytes fault → ⊥ }
     ensures fault { (bytes : List ℕ) (fault other : SexpFault) →
         IsFault bytes fault → IsFault bytes other → fault ≡ other }
+{}
+
+/// Each item of a reading stands for a tree, and the outermost items stand for the trees of the text.
+pub fn item_trees()
+    ensures each { (bytes : List ℕ) (forest : Forest) → IsReading bytes forest →
+        (item : ℕ) → item < length forest.items →
+        Denotes bytes forest.items item (tree_at bytes forest.items item) }
+    ensures outermost { (bytes : List ℕ) (trees : Trees) (forest : Forest) → IsForest bytes trees forest →
+        map (tree_at bytes forest.items) forest.outermost ≡ list_of trees }
 {}

@@ -8,9 +8,9 @@ ghost use Rattle.isel_spec.specs.Form.{binding, sort_in, arg_in, goal_arg_in, bi
 ghost use Rattle.isel_spec.specs.Items.{item_view};
 
 use crate::small_form::subject::Subject;
-use crate::small_form::words::{name, numeral};
+use crate::small_form::words::name;
 use bv_terms::Sort;
-use sexp_read::Forest;
+use sexp_read::{Forest, numeral_between};
 
 /// The numbers of a list's members, or `None` for a word.
 pub fn members<'a>(bytes: &[u8], forest: &'a Forest, item: usize) -> Option<&'a [usize]>
@@ -38,7 +38,7 @@ fn sort(bytes: &[u8], forest: &Forest, item: usize) -> Option<Sort>
     if underscore != b"_".as_slice() || family != b"BitVec".as_slice() {
         return None;
     }
-    let width = numeral(1, 64, width)?;
+    let width = numeral_between(1, 64, width)?;
     Some(Sort::Bits(width as u8))
 }
 
@@ -117,7 +117,7 @@ pub fn pointer(bytes: &[u8], forest: &Forest, item: usize) -> Option<u8>
     if head != b"isel-spec".as_slice() || version != b"1".as_slice() {
         return None;
     }
-    let pointer = numeral(1, 64, pointer)?;
+    let pointer = numeral_between(1, 64, pointer)?;
     Some(pointer as u8)
 }
 
@@ -133,7 +133,7 @@ pub fn cost(subject: Subject, bytes: &[u8], forest: &Forest, item: usize) -> Opt
             attributes.is_empty().then_some(0)
         }
         Subject::Goal => {
-            let cost = numeral(0, 65535, forest.atom(bytes, item)?)?;
+            let cost = numeral_between(0, 65535, forest.atom(bytes, item)?)?;
             Some(cost as u32)
         }
     }

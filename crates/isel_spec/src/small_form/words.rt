@@ -1,112 +1,26 @@
-//! The words of a file's text: numerals, names, literals and operators. Each function answers exactly
-//! what `specs/Text` and `specs/Form` say of the word.
+//! The words of a file's text: names, literals and operators. Each function answers exactly what
+//! `specs/Text` and `specs/Form` say of the word.
 
 ghost use Rattle.std.specs.Prelude.{◌≡◌, ◌<◌, ◌≤◌, ◌^◌, ◌*◌, length, option_map, IfSome};
-ghost use Rattle.std.specs.List.{list_all};
-ghost use Rattle.isel_spec.specs.Text.{is_digit, is_letter, is_name_byte, starts_with_letter, has_name_bytes};
-ghost use Rattle.isel_spec.specs.Text.{is_truth_value, is_name, is_numeral, numeral, digit_in, digit_bits};
+ghost use Rattle.isel_spec.specs.File.{is_short_name};
+ghost use Rattle.isel_spec.specs.Text.{digit_in, digit_bits};
 ghost use Rattle.isel_spec.specs.Text.{hex_digit, binary_digit, number, width, constant, literal};
 ghost use Rattle.isel_spec.specs.Form.{where_true, subject_of, operator};
 
 use crate::small_form::subject::Subject;
 use bv_terms::Op;
 
-fn is_digit(byte: u8) -> bool
-    ensures { result ≡ is_digit byte }
-{
-    byte.is_ascii_digit()
-}
+/// How many bytes a name may have.
+const MOST_NAME_BYTES: usize = 64;
 
-fn is_letter(byte: u8) -> bool
-    ensures { result ≡ is_letter byte }
-{
-    byte.is_ascii_alphabetic()
-}
-
-fn is_name_byte(byte: u8) -> bool
-    ensures { result ≡ is_name_byte byte }
-{
-    is_letter(byte) || is_digit(byte) || byte == b'_' || byte == b'.' || byte == b'-'
-}
-
-fn starts_with_letter(word: &[u8]) -> bool
-    ensures { result ≡ starts_with_letter word.now }
-{
-    match word {
-        [] => false,
-        [first, ..] => is_letter(*first),
-    }
-}
-
-fn all_name_bytes(word: &[u8]) -> bool
-    ensures { result ≡ list_all is_name_byte word.now }
-{
-    word.iter().all(|byte| is_name_byte(*byte))
-}
-
-fn has_name_bytes(word: &[u8]) -> bool
-    ensures { result ≡ has_name_bytes word.now }
-{
-    starts_with_letter(word) && all_name_bytes(word)
-}
-
-fn is_truth_value(word: &[u8]) -> bool
-    ensures { result ≡ is_truth_value word.now }
-{
-    word == b"true".as_slice() || word == b"false".as_slice()
-}
-
-/// A letter, then letters, digits, `_`, `.` and `-`; neither of the truth values; at most 64 bytes.
-fn is_name(word: &[u8]) -> bool
-    ensures { result ≡ is_name word.now }
-{
-    has_name_bytes(word) && !is_truth_value(word) && word.len() <= 64
-}
-
-/// A word as a name, where it is one.
+/// A word as a name of at most 64 bytes, where it is one.
 pub fn name(word: &[u8]) -> Option<&str>
-    ensures { option_map (λ name. name.now) result ≡ where_true (is_name word.now) word.now }
+    ensures { option_map (λ name. name.now) result ≡ where_true (is_short_name word.now) word.now }
 {
-    if !is_name(word) {
+    if word.len() > MOST_NAME_BYTES {
         return None;
     }
-    // A name is ASCII.
-    str::from_utf8(word).ok()
-}
-
-fn all_digits(word: &[u8]) -> bool
-    ensures { result ≡ list_all is_digit word.now }
-{
-    word.iter().all(|byte| is_digit(*byte))
-}
-
-fn is_numeral(word: &[u8]) -> bool
-    ensures { result ≡ is_numeral word.now }
-{
-    match word {
-        [] => false,
-        [digit] => is_digit(*digit),
-        [first, ..] => *first != b'0' && all_digits(word),
-    }
-}
-
-/// A numeral between two numbers.
-pub fn numeral(low: u64, high: u64, word: &[u8]) -> Option<u64>
-    requires { high < 2 ^ 32 }
-    ensures value { result ≡ numeral low high word.now }
-    ensures bounded { IfSome result (λ number. (low ≤ number) × (number ≤ high)) }
-{
-    if !is_numeral(word) {
-        return None;
-    }
-    let mut number = 0;
-    for byte in word {
-        number = 10 * number + u64::from(*byte - b'0');
-        if number > high {
-            return None;
-        }
-    }
-    if number < low { None } else { Some(number) }
+    sexp_read::name(word)
 }
 
 /// The base of a literal's digits.

@@ -46,7 +46,8 @@ add_items-requires-clause-denoted c =
 
 pub add_items-requires-clause-sound : goal.add_items-requires-clause-sound
 add_items-requires-clause-sound c =
-    subst IsSoundSoFar (sym c.no_tables-tables.ensures) (record { ops = refl; goals = refl })
+    subst IsSoundSoFar (sym c.no_tables-tables.ensures)
+    (record { ops = refl; goals = refl; short = refl; apart = refl })
 
 pub returns-in_default : goal.returns-in_default
 returns-in_default c =

@@ -2,7 +2,8 @@ use Rattle.std.proofs.Common.{◌≡◌, ◌+◌, sym, ap, ◌∙◌, arith, opt
 use Rattle.std.proofs.Common.{List, [], ◌∷◌, ◌++◌, length-append}
 use Rattle.std.proofs.lemmas.Bool.{false≢true}
 use Rattle.isel_spec.specs.Text.{each}
-use Rattle.isel_spec.specs.Form.{Binding, binding_in, scope_of, differ}
+use Rattle.isel_spec.specs.File.{differ}
+use Rattle.isel_spec.specs.Form.{Binding, binding_in, scope_of}
 use Rattle.isel_spec.specs.Items.{item_view}
 use Rattle.isel_spec.proofs.Scopes.{each-more, scope-long, scope-twice, apart-more}
 use Rattle.isel_spec.proofs.small_form.scope.scope.Goals as goal

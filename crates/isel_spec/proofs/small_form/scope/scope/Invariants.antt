@@ -1,6 +1,7 @@
 use Rattle.std.proofs.Common.{◌≡◌, ◌++◌, ◌≤◌, drop, length, map, true, option_map}
 use Rattle.isel_spec.specs.Text.{each}
-use Rattle.isel_spec.specs.Form.{binding_in, differ}
+use Rattle.isel_spec.specs.File.{differ}
+use Rattle.isel_spec.specs.Form.{binding_in}
 use Rattle.isel_spec.specs.Items.{item_view}
 use Rattle.isel_spec.proofs.small_form.scope.scope.Given as goal
 

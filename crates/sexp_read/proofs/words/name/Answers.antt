@@ -1,7 +1,7 @@
 use Rattle.std.proofs.Common.{sym, ◌∙◌}
 use Rattle.std.proofs.lemmas.Str.{IsUtf8-from_ascii}
-use Rattle.isel_spec.proofs.Names.{name-ascii, text-of-name}
-use Rattle.isel_spec.proofs.small_form.words.name.Goals as goal
+use Rattle.sexp_read.proofs.NameLemmas.{name-ascii, text-of-name}
+use Rattle.sexp_read.proofs.words.name.Goals as goal
 
 pub returns : goal.returns
 returns c =

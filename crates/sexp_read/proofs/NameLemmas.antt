@@ -7,7 +7,7 @@ use Rattle.std.specs.Prelude.{MatchResult}
 use Rattle.std.specs.Result.{result_ok}
 use denote.Ref.{Bor}
 use Rattle.std.proofs.lemmas.Bool.Decides.{nat_tests}
-use Rattle.isel_spec.specs.Text.{is_name, is_name_byte}
+use Rattle.sexp_read.specs.Words.{is_name, is_name_byte}
 use Rattle.list_lemmas.proofs.Bools.{and_left, and_right}
 
 name_byte_small : (b : ℕ) → is_name_byte b ≡ true → b < 128
@@ -19,7 +19,7 @@ all_small (b ∷ bytes) e zero = name_byte_small b (and_left (is_name_byte b) _ 
 all_small (b ∷ bytes) e (suc i) = all_small bytes (and_right (is_name_byte b) _ e) i
 
 pub name-ascii : (bytes : List ℕ) → is_name bytes ≡ true → IsAscii bytes
-name-ascii bytes e = all_small bytes (and_right _ _ (and_left _ _ (and_left _ _ e)))
+name-ascii bytes e = all_small bytes (and_right _ _ (and_left _ _ e))
 
 pub text-of-name : {E : Type 0} (bytes : List ℕ) (V : E → Type 0) (read : Result (Bor (List ℕ)) E) → IsUtf8 bytes →
     MatchResult read (λ s. (s.now ≡ bytes) × IsUtf8 bytes) (λ e. ¬ (IsUtf8 bytes) × V e)
