@@ -4,6 +4,7 @@
 //! - `tests/grafts`: a term of one table made in another
 //! - `tests/lists`: faults and forests of small texts
 //! - `tests/operators`: values of each operator by the standard
+//! - `tests/reading`: terms that are read, their faults, and terms that are written and read back
 //! - `tests/terms`: faults of `make`, and the nodes of subterms with their values
 //! - `tests/written`: operators of a term's text: over what they may stand, and their values
 #![tactic(auto)]

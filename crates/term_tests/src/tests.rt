@@ -3,5 +3,6 @@
 mod grafts;
 mod lists;
 mod operators;
+mod reading;
 mod terms;
 mod written;

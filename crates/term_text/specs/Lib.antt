@@ -2,3 +2,10 @@ pub mod Operator
 pub mod Written
 pub mod Build
 pub mod Words
+pub mod Literal
+pub mod Head
+pub mod Reading
+pub mod Grammar
+pub mod Scope
+pub mod Text
+pub mod Writing

@@ -1,0 +1,7 @@
+use Rattle.term_text.proofs.bindings.word_fault.Goals as goal
+
+pub atom-requires-clause-item_in : goal.atom-requires-clause-item_in
+atom-requires-clause-item_in c = (c.in_ok-first.ensures.later c.args.bytes.now c.requires.reading).1
+
+pub span-requires : goal.span-requires
+span-requires c = (c.in_ok-first.ensures.later c.args.bytes.now c.requires.reading).1
