@@ -92,24 +92,58 @@ fn gives(
     Ok(found.as_slice() == [bit(wanted)].as_slice())
 }
 
-#[test]
-fn patterns_and_goals_have_their_values(rt: HostRuntime) -> Result<(), Fail> {
-    let alloc = rt.alloc();
-    let Ok(spec) = read_first(alloc, OR1.as_bytes()) else {
-        assert!(rt; false, "the file is read");
-        return Ok(());
-    };
-    assert!(rt; spec.goals.len() == 1);
+/// Two inputs, what the goal and the pattern of the same operation give, and what the other pattern gives.
+type Case = (u64, u64, u64, u64);
+
+const CASES: [Case; 4] = [(0, 0, 0, 0), (0, 1, 1, 1), (1, 0, 1, 1), (1, 1, 1, 0)];
+
+/// Whether the goal gives that bit.
+fn goal_gives(alloc: Global, spec: &Spec, inputs: &[Value], wanted: u64) -> Result<bool, AllocError>
+    requires there { 0 < length spec.now.goals }
+    requires inputs { (g : Goal) → slice_get (file spec.now).goals 0 ≡ Some g → HaveSorts g.args inputs.now }
+{
+    let found = eval_goal(alloc, spec, 0, inputs)?;
+    Ok(found.as_slice() == [bit(wanted)].as_slice())
+}
+
+/// Whether the goal and both patterns have their values at the inputs of a case.
+fn is_right(
+    alloc: Global,
+    spec: &Spec,
+    or: &Pattern,
+    xor: &Pattern,
+    case: Case,
+) -> Result<bool, AllocError>
+    requires there { 0 < length spec.now.goals }
+{
+    let (a, b, by_or, by_xor) = case;
+    let inputs = [bit(a), bit(b)];
+    if !do_inputs_fit(spec, &inputs) || !goal_gives(alloc, spec, &inputs, by_or)? {
+        return Ok(false);
+    }
+    Ok(gives(alloc, spec, or, &inputs, by_or)? && gives(alloc, spec, xor, &inputs, by_xor)?)
+}
+
+/// Whether they have them in all cases.
+fn are_right(alloc: Global, spec: &Spec) -> Result<bool, AllocError> {
+    if spec.goals.len() != 1 {
+        return Ok(false);
+    }
     let or = pattern_of(alloc, 0)?;
     let xor = pattern_of(alloc, 1)?;
-    let cases = [(0, 0, 0, 0), (0, 1, 1, 1), (1, 0, 1, 1), (1, 1, 1, 0)];
-    for (a, b, by_or, by_xor) in cases {
-        let inputs = [bit(a), bit(b)];
-        assert!(rt; do_inputs_fit(&spec, &inputs));
-        let wanted = eval_goal(alloc, &spec, 0, &inputs)?;
-        assert!(rt; wanted.as_slice() == [bit(by_or)].as_slice());
-        assert!(rt; gives(alloc, &spec, &or, &inputs, by_or)?);
-        assert!(rt; gives(alloc, &spec, &xor, &inputs, by_xor)?);
+    for case in CASES {
+        if !is_right(alloc, spec, &or, &xor, case)? {
+            return Ok(false);
+        }
     }
+    Ok(true)
+}
+
+#[test]
+fn patterns_and_goals_have_their_values(rt: HostRuntime) -> Result<(), Fail> {
+    let spec = read_first(rt.alloc(), OR1.as_bytes())
+        .ok()
+        .ok_or("the file is read")?;
+    assert!(rt; are_right(rt.alloc(), &spec)?);
     Ok(())
 }

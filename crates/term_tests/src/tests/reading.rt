@@ -37,7 +37,13 @@ fn inputs_in(
     let mut number = 0;
     for (name, sort) in inputs {
         let node = terms
-            .make(Op::Input { number, sort: *sort }, &[])
+            .make(
+                Op::Input {
+                    number,
+                    sort: *sort,
+                },
+                &[],
+            )
             .ok()
             .ok_or("the input is made")?;
         if names.contains(name) || number == u32::MAX {
@@ -91,63 +97,282 @@ const FAULTS: [(&str, &str, TermKind, usize, usize); 60] = [
         0,
         67,
     ),
-    ("17 hexadecimal digits", "#x00000000000000000", TermKind::Literal, 0, 19),
+    (
+        "17 hexadecimal digits",
+        "#x00000000000000000",
+        TermKind::Literal,
+        0,
+        19,
+    ),
     ("an empty list", "()", TermKind::Unknown, 0, 2),
     ("no operator", "(foo a)", TermKind::Unknown, 1, 4),
     ("a name as an operator", "(a)", TermKind::Unknown, 1, 2),
-    ("a list of a word as an operator", "((bvnot) a)", TermKind::Unknown, 1, 8),
-    ("numbers of an operator that has none", "((_ bvnot 1) a)", TermKind::Unknown, 1, 12),
-    ("no underscore before numbers", "((x extract 1 0) a)", TermKind::Unknown, 1, 16),
-    ("no numbers where there should be", "(extract a)", TermKind::Unknown, 1, 8),
-    ("a list as an operator's word", "((_ (repeat) 1) a)", TermKind::Unknown, 1, 15),
-    ("too few numbers", "((_ extract 1) a)", TermKind::Index, 1, 14),
-    ("too many numbers", "((_ repeat 1 1) a)", TermKind::Index, 1, 15),
+    (
+        "a list of a word as an operator",
+        "((bvnot) a)",
+        TermKind::Unknown,
+        1,
+        8,
+    ),
+    (
+        "numbers of an operator that has none",
+        "((_ bvnot 1) a)",
+        TermKind::Unknown,
+        1,
+        12,
+    ),
+    (
+        "no underscore before numbers",
+        "((x extract 1 0) a)",
+        TermKind::Unknown,
+        1,
+        16,
+    ),
+    (
+        "no numbers where there should be",
+        "(extract a)",
+        TermKind::Unknown,
+        1,
+        8,
+    ),
+    (
+        "a list as an operator's word",
+        "((_ (repeat) 1) a)",
+        TermKind::Unknown,
+        1,
+        15,
+    ),
+    (
+        "too few numbers",
+        "((_ extract 1) a)",
+        TermKind::Index,
+        1,
+        14,
+    ),
+    (
+        "too many numbers",
+        "((_ repeat 1 1) a)",
+        TermKind::Index,
+        1,
+        15,
+    ),
     ("no number", "((_ repeat) a)", TermKind::Index, 1, 11),
-    ("a leading zero", "((_ repeat 01) a)", TermKind::Index, 1, 14),
-    ("2^32", "((_ rotate_left 4294967296) a)", TermKind::Index, 1, 27),
-    ("a list as a number", "((_ zero_extend (1)) a)", TermKind::Index, 1, 20),
-    ("a number past the width", "(_ bv256 8)", TermKind::Literal, 0, 11),
-    ("2^64 at width 64", "(_ bv18446744073709551616 64)", TermKind::Literal, 0, 29),
+    (
+        "a leading zero",
+        "((_ repeat 01) a)",
+        TermKind::Index,
+        1,
+        14,
+    ),
+    (
+        "2^32",
+        "((_ rotate_left 4294967296) a)",
+        TermKind::Index,
+        1,
+        27,
+    ),
+    (
+        "a list as a number",
+        "((_ zero_extend (1)) a)",
+        TermKind::Index,
+        1,
+        20,
+    ),
+    (
+        "a number past the width",
+        "(_ bv256 8)",
+        TermKind::Literal,
+        0,
+        11,
+    ),
+    (
+        "2^64 at width 64",
+        "(_ bv18446744073709551616 64)",
+        TermKind::Literal,
+        0,
+        29,
+    ),
     ("width 65", "(_ bv1 65)", TermKind::Literal, 0, 10),
     ("width 0", "(_ bv0 0)", TermKind::Literal, 0, 9),
     ("a list as a width", "(_ bv0 (8))", TermKind::Literal, 0, 11),
-    ("no number after bv", "(_ bvadd 8)", TermKind::Literal, 0, 11),
-    ("a constant of four items", "(_ bv1 8 8)", TermKind::Unknown, 0, 11),
-    ("an operator's head alone", "(_ extract 1 0)", TermKind::Unknown, 0, 15),
+    (
+        "no number after bv",
+        "(_ bvadd 8)",
+        TermKind::Literal,
+        0,
+        11,
+    ),
+    (
+        "a constant of four items",
+        "(_ bv1 8 8)",
+        TermKind::Unknown,
+        0,
+        11,
+    ),
+    (
+        "an operator's head alone",
+        "(_ extract 1 0)",
+        TermKind::Unknown,
+        0,
+        15,
+    ),
     ("no constant", "(_ repeat 8)", TermKind::Unknown, 0, 12),
     ("an underscore alone", "(_)", TermKind::Unknown, 0, 3),
     ("let alone", "(let)", TermKind::Arity, 0, 5),
     ("let without a name", "(let () a)", TermKind::Arity, 0, 10),
-    ("let with two bodies", "(let ((x a)) x x)", TermKind::Arity, 0, 17),
-    ("let with a word in place of its list", "(let x a)", TermKind::Arity, 0, 9),
-    ("let without a term", "(let ((x)) x)", TermKind::Arity, 0, 13),
-    ("let with a list in place of a name", "(let (((x) a)) a)", TermKind::Arity, 0, 17),
-    ("let of no name", "(let ((x a) (1 a)) a)", TermKind::Unknown, 13, 14),
-    ("let of a truth value", "(let ((true a)) a)", TermKind::Unknown, 7, 11),
-    ("let of no name twice", "(let ((1 a) (1 a)) a)", TermKind::Unknown, 7, 8),
-    ("let of a name twice", "(let ((x a) (x b)) x)", TermKind::Arity, 0, 21),
-    ("let's form before its terms", "(let ((x y) (z)) x)", TermKind::Arity, 0, 19),
-    ("let's terms before its body", "(let ((x y)) z)", TermKind::Unknown, 9, 10),
-    ("a bound term does not see the name", "(let ((x a) (y x)) y)", TermKind::Unknown, 15, 16),
+    (
+        "let with two bodies",
+        "(let ((x a)) x x)",
+        TermKind::Arity,
+        0,
+        17,
+    ),
+    (
+        "let with a word in place of its list",
+        "(let x a)",
+        TermKind::Arity,
+        0,
+        9,
+    ),
+    (
+        "let without a term",
+        "(let ((x)) x)",
+        TermKind::Arity,
+        0,
+        13,
+    ),
+    (
+        "let with a list in place of a name",
+        "(let (((x) a)) a)",
+        TermKind::Arity,
+        0,
+        17,
+    ),
+    (
+        "let of no name",
+        "(let ((x a) (1 a)) a)",
+        TermKind::Unknown,
+        13,
+        14,
+    ),
+    (
+        "let of a truth value",
+        "(let ((true a)) a)",
+        TermKind::Unknown,
+        7,
+        11,
+    ),
+    (
+        "let of no name twice",
+        "(let ((1 a) (1 a)) a)",
+        TermKind::Unknown,
+        7,
+        8,
+    ),
+    (
+        "let of a name twice",
+        "(let ((x a) (x b)) x)",
+        TermKind::Arity,
+        0,
+        21,
+    ),
+    (
+        "let's form before its terms",
+        "(let ((x y) (z)) x)",
+        TermKind::Arity,
+        0,
+        19,
+    ),
+    (
+        "let's terms before its body",
+        "(let ((x y)) z)",
+        TermKind::Unknown,
+        9,
+        10,
+    ),
+    (
+        "a bound term does not see the name",
+        "(let ((x a) (y x)) y)",
+        TermKind::Unknown,
+        15,
+        16,
+    ),
     ("three bytes", "(mload 3 m p)", TermKind::Index, 7, 8),
-    ("more bytes than addresses", "(mload 8 m p)", TermKind::Index, 7, 8),
-    ("a number of bytes past a byte's range", "(mmark 257 m p)", TermKind::Index, 7, 10),
-    ("a memory in place of the bytes", "(mload m p)", TermKind::Index, 7, 8),
+    (
+        "more bytes than addresses",
+        "(mload 8 m p)",
+        TermKind::Index,
+        7,
+        8,
+    ),
+    (
+        "a number of bytes past a byte's range",
+        "(mmark 257 m p)",
+        TermKind::Index,
+        7,
+        10,
+    ),
+    (
+        "a memory in place of the bytes",
+        "(mload m p)",
+        TermKind::Index,
+        7,
+        8,
+    ),
     ("no number of bytes", "(mload)", TermKind::Arity, 0, 7),
-    ("too many arguments of a store", "(mstore 1 m p a a)", TermKind::Arity, 0, 18),
-    ("arguments before their number", "(bvnot x y)", TermKind::Unknown, 7, 8),
+    (
+        "too many arguments of a store",
+        "(mstore 1 m p a a)",
+        TermKind::Arity,
+        0,
+        18,
+    ),
+    (
+        "arguments before their number",
+        "(bvnot x y)",
+        TermKind::Unknown,
+        7,
+        8,
+    ),
     ("one argument too few", "(bvadd a)", TermKind::Arity, 0, 9),
-    ("the number of arguments before their sorts", "(bvsub a b c)", TermKind::Arity, 0, 13),
-    ("the first that does not fit", "(bvadd a b c w)", TermKind::Sorts, 11, 12),
-    ("a sort before a number", "((_ extract 8 0) c)", TermKind::Sorts, 17, 18),
-    ("a bit past the width", "((_ extract 8 0) a)", TermKind::Index, 0, 19),
+    (
+        "the number of arguments before their sorts",
+        "(bvsub a b c)",
+        TermKind::Arity,
+        0,
+        13,
+    ),
+    (
+        "the first that does not fit",
+        "(bvadd a b c w)",
+        TermKind::Sorts,
+        11,
+        12,
+    ),
+    (
+        "a sort before a number",
+        "((_ extract 8 0) c)",
+        TermKind::Sorts,
+        17,
+        18,
+    ),
+    (
+        "a bit past the width",
+        "((_ extract 8 0) a)",
+        TermKind::Index,
+        0,
+        19,
+    ),
     ("65 bits", "(concat w #b1)", TermKind::Width, 0, 14),
 ];
 
 #[test]
 fn the_first_fault_of_a_text(rt: HostRuntime) -> Result<(), Fail> {
     for (name, text, kind, from, to) in FAULTS {
-        assert!(rt; fault_of(rt.alloc(), text)? == Some(TermFault { kind, from, to }), "{name}");
+        assert!(rt;
+            fault_of(rt.alloc(), text)? == Some(TermFault { kind, from, to }),
+            "{name}"
+        );
     }
     Ok(())
 }
@@ -174,7 +399,10 @@ const VALUES: [(&str, u64); 16] = [
     ("#b10000001", 0x81),
     ("#xAf", 0xaf),
     ("(let ((x #x01) (y #x02)) (bvsub x y))", 0xff),
-    ("(let ((x #x01)) (let ((x #x02) (y x)) (bvadd x y y)))", 0x04),
+    (
+        "(let ((x #x01)) (let ((x #x02) (y x)) (bvadd x y y)))",
+        0x04,
+    ),
     ("(ite (=> true true false) #x00 #x11)", 0x11),
     ("((_ rotate_left 9) #x81)", 0x03),
     ("((_ repeat 2) ((_ extract 7 4) #xa0))", 0xaa),
@@ -185,7 +413,10 @@ const VALUES: [(&str, u64); 16] = [
 #[test]
 fn values_of_terms(rt: HostRuntime) -> Result<(), Fail> {
     for (text, number) in VALUES {
-        assert!(rt; value_in(rt.alloc(), text)? == Some(Value::Bits { width: 8, number }), "{text}");
+        assert!(rt;
+            value_in(rt.alloc(), text)? == Some(Value::Bits { width: 8, number }),
+            "{text}"
+        );
     }
     Ok(())
 }
@@ -226,7 +457,13 @@ fn a_hundred_thousand_arguments_make_as_deep_a_term(rt: HostRuntime) -> Result<(
 
 #[test]
 fn a_name_that_is_doubled_thirty_times_makes_thirty_nodes(rt: HostRuntime) -> Result<(), Fail> {
-    let front = repeated(rt.alloc(), b"(let ((x a)) ", b"(let ((x (bvadd x x))) ", 30, b"x")?;
+    let front = repeated(
+        rt.alloc(),
+        b"(let ((x a)) ",
+        b"(let ((x (bvadd x x))) ",
+        30,
+        b"x",
+    )?;
     let text = repeated(rt.alloc(), &front, b")", 31, b"")?;
     assert!(rt; nodes_of(rt.alloc(), &text)? == Ok(36));
     Ok(())
@@ -336,7 +573,10 @@ const WRITTEN: [(&str, &str); 8] = [
         "(bvnor (bvsub a b) (bvshl a b))",
         "(bvnot (bvor (bvsub a b) (bvshl a b)))",
     ),
-    ("(let ((x (bvnot a))) (concat x x b))", "(concat (concat (bvnot a) (bvnot a)) b)"),
+    (
+        "(let ((x (bvnot a))) (concat x x b))",
+        "(concat (concat (bvnot a) (bvnot a)) b)",
+    ),
 ];
 
 #[test]
