@@ -27,7 +27,8 @@ use Rattle.isel_spec.specs.Spec.{file}
 use Rattle.pattern_core.specs.declared.pattern.Src.{Src}
 use Rattle.pattern_core.specs.declared.pattern.Src.TheVariants.{Input, Out}
 use Rattle.pattern_core.specs.declared.pattern.Node.{Node}
-use Rattle.pattern_core.specs.Pattern.{source_value, attr_values, op_results, outs_from, operation_sort, source_sort}
+use Rattle.pattern_core.specs.Pattern.{operation_sort, source_sort}
+use Rattle.pattern_core.specs.Rule.{source_value, attr_values, op_results, outs_from}
 use Rattle.pattern_core.specs.Pattern.{Pairwise, IsFitting, AreFitting}
 use Rattle.pattern_core.specs.Meaning.{IsNodeGiven}
 use Rattle.isel_spec.proofs.SpecLemmas.{operation_is, CanEval, CanEval-op}
@@ -87,7 +88,7 @@ HaveSorts-append (s ∷ ss) ts (v ∷ vs) us h k = (h.0, HaveSorts-append ss ts 
 -- ---- sources
 
 -- each source of a node after the first k has a value of its sort
-abbrev SourcesFit : File → Goal → List Node → ℕ → List Value → List (List Value) → Type 0
+abbrev pub SourcesFit : File → Goal → List Node → ℕ → List Value → List (List Value) → Type 0
 SourcesFit f g nodes k inputs outs =
     (s : Src) (t : Sort) → source_sort f g nodes k s ≡ Some t → HasSort t (source_value inputs outs s)
 
@@ -104,7 +105,7 @@ sources-sorted f g nodes k inputs outs h (x ∷ xs) (s ∷ ss) e =
     (h x s first, sources-sorted f g nodes k inputs outs h xs ss rest)
 
 -- the arguments and attributes of a node that fits
-node-sorted : (f : File) (g : Goal) (nodes : List Node) (k : ℕ) (inputs : List Value) (outs : List (List Value))
+pub node-sorted : (f : File) (g : Goal) (nodes : List Node) (k : ℕ) (inputs : List Value) (outs : List (List Value))
     (n : Node) (o : Operation) → SourcesFit f g nodes k inputs outs → IsFitting f g nodes k n
     → slice_get f.ops n.op ≡ Some o
     → HaveSorts (o.args ++ map (λ w. sort.Bits w) o.attrs)
@@ -129,7 +130,7 @@ result_fits s name d vs r u can e =
     subst (InputsFit vs) at.2 (subst (λ (a : TermId). InputsFit vs (term_at s.terms a)) here (can.fit r at.0 l))
 
 -- a result of an operation has its sort
-result-sorted : (p : ℕ) (o : Operation) (vs : List Value) (r : ℕ) (t : Sort)
+pub result-sorted : (p : ℕ) (o : Operation) (vs : List Value) (r : ℕ) (t : Sort)
     → ((u : Term) → slice_get o.results r ≡ Some u → InputsFit vs u)
     → option_and_then (sort_of p) (slice_get o.results r) ≡ Some t
     → HasSort t (unwrap_or (slice_get (map (value vs) o.results) r) (val.Bool false))
@@ -152,7 +153,7 @@ pub record IsGiven (s : Spec) (g_at : ℕ) (nodes : List Node) (inputs : List Va
   pub sorted : (g : Goal) → slice_get (file s).goals g_at ≡ Some g → (x : Src) (t : Sort)
       → source_sort (file s) g nodes place x ≡ Some t → HasSort t (source_value inputs outs x)
 
-no_source : (f : File) (g : Goal) (nodes : List Node) (inputs : List Value) → HaveSorts g.args inputs
+pub no_source : (f : File) (g : Goal) (nodes : List Node) (inputs : List Value) → HaveSorts g.args inputs
     → SourcesFit f g nodes 0 inputs []
 no_source f g nodes inputs h (Input k) t e =
     let v = HaveSorts-at g.args inputs h k t e in
@@ -178,7 +179,7 @@ abbrev out_sort : File → List Node → ℕ → ℕ → Option Sort
 out_sort f nodes node r =
     operation_sort f (option_and_then (λ (n : Node). slice_get f.ops n.op) (slice_get nodes node)) r
 
-one_more : (f : File) (g : Goal) (nodes : List Node) (k : ℕ) (inputs : List Value) (outs : List (List Value))
+pub one_more : (f : File) (g : Goal) (nodes : List Node) (k : ℕ) (inputs : List Value) (outs : List (List Value))
     (new : List Value) (n : Node) → length outs ≡ k → slice_get nodes k ≡ Some n → SourcesFit f g nodes k inputs outs
     → ((r : ℕ) (t : Sort) → operation_sort f (slice_get f.ops n.op) r ≡ Some t
     → HasSort t (unwrap_or (slice_get new r) (val.Bool false)))

@@ -1,5 +1,12 @@
 pub mod OrderLemmas
 pub mod WalkLemmas
+pub mod SourceLemmas
 pub mod FitLemmas
 pub mod EvalLemmas
+pub mod ThingLemmas
 pub mod TotalLemmas
+pub mod PlaceLemmas
+pub mod OrderOfWalk
+pub mod RenamingLemmas
+pub mod FormLemmas
+pub mod ForwardLemmas

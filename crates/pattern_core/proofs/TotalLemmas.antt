@@ -1,7 +1,7 @@
 -- The order of patterns is total, and only equal patterns of a goal are `Equal`.
 use Rattle.std.proofs.Common.{◌≡◌, ℕ, ◌<◌, ◌≤◌, true, ◌&&◌, List, [], ◌∷◌, length, map}
 use Rattle.std.proofs.Common.{Option, Some, None, refl, sym, ap, ◌∙◌, subst, arith, slice_get}
-use Rattle.std.specs.Prelude.{nat_lt, option_and_then, IsSome}
+use Rattle.std.specs.Prelude.{nat_lt, IsSome}
 use Rattle.std.specs.Cmp.{IsTotalOrder, nat_cmp_total, on_total, then_total}
 use Rattle.std.specs.Cmp.Lexicographic.{lists_total, nat_list_cmp_total, slice_cmp}
 use Rattle.std.specs.FinMap.{nat_cmp-IsAntisymmetric, slice_cmp-IsAntisymmetric}
@@ -9,7 +9,7 @@ use Rattle.std.specs.Ordering.{nat_cmp, ordering_then}
 use Rattle.std.specs.declared.cmp.Ordering.TheVariants.{Equal}
 use Rattle.std.proofs.lemmas.Bool.{and_parts, ltb-true, false≢true}
 use Rattle.std.proofs.lemmas.List.{length-map}
-use Rattle.std.proofs.lemmas.Option.{slice_get_within, slice_get-get_or, unwrap_or-slice_get}
+use Rattle.std.proofs.lemmas.Option.{slice_get-get_or, unwrap_or-slice_get}
 use Rattle.bv_terms.specs.declared.op.TermId.{TermId}
 use Rattle.bv_terms.specs.declared.value.Sort.{Sort}
 use Rattle.bv_terms.specs.Term.{Term}
@@ -17,19 +17,19 @@ use Rattle.bv_terms.specs.WellSorted.{sort_of}
 use Rattle.bv_terms.specs.Table.{Table, IsTable, terms_of, term_in}
 use Rattle.isel_spec.specs.declared.definitions.GoalDef.{GoalDef}
 use Rattle.isel_spec.specs.declared.spec.Spec.{Spec}
-use Rattle.isel_spec.specs.File.{File, Operation, Goal, operation, goal, are_sound, stays_in}
+use Rattle.isel_spec.specs.File.{File, Operation, Goal, goal, are_sound, stays_in}
 use Rattle.isel_spec.specs.Spec.{file}
 use Rattle.pattern_core.specs.declared.pattern.Src.{Src}
 use Rattle.pattern_core.specs.declared.pattern.Src.TheVariants.{Input, Out}
 use Rattle.pattern_core.specs.declared.pattern.Node.{Node}
 use Rattle.pattern_core.specs.declared.pattern.Pattern.{Pattern}
-use Rattle.isel_spec.proofs.SpecLemmas.{pointer_is, IsSoundGoal, IsSoundOp_at, IsSoundGoal_at}
-use Rattle.pattern_core.specs.Pattern.{operation_sort, source_sort, IsWellFormed}
+use Rattle.isel_spec.proofs.SpecLemmas.{pointer_is, IsSoundGoal, IsSoundGoal_at}
+use Rattle.pattern_core.specs.Pattern.{source_sort, IsWellFormed}
 use Rattle.pattern_core.specs.Order.{source_number, source_cmp, node_cmp, multiset, pattern_cmp, IsTotalOrderOf}
+use Rattle.pattern_core.proofs.SourceLemmas.{IsSmall, small_source, few_results}
 use Rattle.bv_terms.proofs.TableLemmas.{length-terms_of}
 use Rattle.list_lemmas.proofs.Lists.{Each}
 use Rattle.list_lemmas.proofs.Lookups.{each_from_places, mapped_at}
-use Rattle.list_lemmas.proofs.Options.{bind-first as is_some, cond-some as in_then}
 use Rattle.list_lemmas.proofs.Orders.{same_lists, then_first, then_second}
 
 -- ---- total and transitive
@@ -52,20 +52,15 @@ pattern_total =
 
 -- ---- what is `Equal`
 
--- a source that a goal of at most four arguments and nodes of at most three results have
-abbrev IsSmall : Src → Type 0
-IsSmall (Input k) = k < 4
-IsSmall (Out node result) = result < 3
-
-same_source : (s t : Src) → IsSmall s → IsSmall t → source_cmp s t ≡ Equal → s ≡ t
-same_source (Input j) (Input k) a b e = ap (λ n. Input n) (nat_cmp-IsAntisymmetric j k e)
-same_source (Input j) (Out m r) a b e =
+same_numbered : (s t : Src) → IsSmall s → IsSmall t → source_cmp s t ≡ Equal → s ≡ t
+same_numbered (Input j) (Input k) a b e = ap (λ n. Input n) (nat_cmp-IsAntisymmetric j k e)
+same_numbered (Input j) (Out m r) a b e =
     let same = nat_cmp-IsAntisymmetric j (source_number (Out m r)) e in
     absurd (omega (arith, a, same))
-same_source (Out n q) (Input k) a b e =
+same_numbered (Out n q) (Input k) a b e =
     let same = nat_cmp-IsAntisymmetric (source_number (Out n q)) k e in
     absurd (omega (arith, b, same))
-same_source (Out n q) (Out m r) a b e =
+same_numbered (Out n q) (Out m r) a b e =
     let same = nat_cmp-IsAntisymmetric (source_number (Out n q)) (source_number (Out m r)) e in
     let nodes : n ≡ m = omega (arith, a, b, same) in
     let results : q ≡ r = omega (arith, a, b, same) in
@@ -83,7 +78,7 @@ same_node m n a b e =
     let later = then_second by_op (ordering_then by_attrs by_args) e in
     let ops = nat_cmp-IsAntisymmetric m.op n.op (then_first by_op (ordering_then by_attrs by_args) e) in
     let attrs = slice_cmp-IsAntisymmetric nat_cmp-IsAntisymmetric m.attrs n.attrs (then_first by_attrs by_args later) in
-    let args = same_lists IsSmall source_cmp same_source m.args n.args a b (then_second by_attrs by_args later) in
+    let args = same_lists IsSmall source_cmp same_numbered m.args n.args a b (then_second by_attrs by_args later) in
     λ i. record { op = ops i; attrs = attrs i; args = args i }
 
 record IsSmallPattern (p : Pattern) : Type 0 where
@@ -101,7 +96,7 @@ same_pattern p q a b e =
     let nodes =
     same_lists HasSmall node_cmp same_node p.nodes q.nodes a.nodes b.nodes (then_first by_nodes by_results third) in
     let results =
-    same_lists IsSmall source_cmp same_source p.results q.results a.results b.results
+    same_lists IsSmall source_cmp same_numbered p.results q.results a.results b.results
     (then_second by_nodes by_results third) in
     λ i. record { nodes = nodes i; results = results i }
 
@@ -113,32 +108,6 @@ pub record IsLimited (f : File) (g : Goal) : Type 0 where
   pub sorted : Each (λ (t : Term). IsSome (sort_of f.pointer t)) g.results
   pub results : (k : ℕ) (o : Operation) → slice_get f.ops k ≡ Some o → length o.results ≤ 3
 
-small_result : (f : File) (o : Option Operation) (result : ℕ) (t : Sort)
-    → ((p : Operation) → o ≡ Some p → length p.results ≤ 3)
-    → operation_sort f o result ≡ Some t → result < 3
-small_result f None result t few e = absurd (cc)
-small_result f (Some o) result t few e =
-    let there = is_some (sort_of f.pointer) (slice_get o.results result) t e in
-    let within = slice_get_within o.results result there.0 there.1 in
-    let three = few o refl in
-    omega (arith, within, three)
-
-small_source : (f : File) (g : Goal) → IsLimited f g → (nodes : List Node) (k : ℕ) (s : Src) (t : Sort)
-    → source_sort f g nodes k s ≡ Some t → IsSmall s
-small_source f g limits nodes k (Input i) t e =
-    let within = slice_get_within g.args i t e in
-    let four = limits.args in
-    omega (arith, within, four)
-small_source f g limits nodes k (Out node result) t e =
-    let op = option_and_then (λ (n : Node). slice_get f.ops n.op) (slice_get nodes node) in
-    small_result f op result t (λ p. few (slice_get nodes node) p)
-    (in_then (nat_lt node k) (operation_sort f op result) t e)
-  where
-    few : (n : Option Node) (p : Operation) → option_and_then (λ (n : Node). slice_get f.ops n.op) n ≡ Some p
-        → length p.results ≤ 3
-    few None p e = absurd (cc)
-    few (Some n) p e = limits.results n.op p e
-
 small_sources : (f : File) (g : Goal) → IsLimited f g
     → (nodes : List Node) (k : ℕ) (xs : List Src) (os : List (Option Sort))
     → map (source_sort f g nodes k) xs ≡ os → Each (λ (o : Option Sort). IsSome o) os → Each IsSmall xs
@@ -148,13 +117,13 @@ small_sources f g limits nodes k (x ∷ xs) (None ∷ os) e all = absurd (false�
 small_sources f g limits nodes k (x ∷ xs) (Some t ∷ os) e all =
     let first : source_sort f g nodes k x ≡ Some t = cc in
     let rest : map (source_sort f g nodes k) xs ≡ os = cc in
-    (small_source f g limits nodes k x t first, small_sources f g limits nodes k xs os rest all.1)
+    (small_source f g limits.args limits.results nodes k x t first, small_sources f g limits nodes k xs os rest all.1)
 
-all_some : (ss : List Sort) → Each (λ (o : Option Sort). IsSome o) (map (λ s. Some s) ss)
+pub all_some : (ss : List Sort) → Each (λ (o : Option Sort). IsSome o) (map (λ s. Some s) ss)
 all_some [] = tt
 all_some (s ∷ ss) = (refl, all_some ss)
 
-some_of : (p : ℕ) (ts : List Term) → Each (λ (t : Term). IsSome (sort_of p t)) ts
+pub some_of : (p : ℕ) (ts : List Term) → Each (λ (t : Term). IsSome (sort_of p t)) ts
     → Each (λ (o : Option Sort). IsSome o) (map (sort_of p) ts)
 some_of p [] all = tt
 some_of p (t ∷ ts) all = (all.0, some_of p ts all.1)
@@ -179,14 +148,6 @@ is_total_order f g limits = record {
 }
 
 -- ---- what a `Spec` keeps
-
-few_results : (s : Spec) (k : ℕ) (o : Operation) → slice_get (file s).ops k ≡ Some o → length o.results ≤ 3
-few_results s k o e =
-    let at = mapped_at (operation s.terms) s.ops k o e in
-    let sound = IsSoundOp_at s k at.0 at.1 in
-    let three = sound.most in
-    subst (λ (p : Operation). length p.results ≤ 3) at.2
-    (subst (λ n. n ≤ 3) (sym (length-map at.0.1.results (λ (a : TermId). term_in (terms_of s.terms) a.0))) three)
 
 term_there : (ts : List Term) (k : ℕ) → k < length ts → slice_get ts k ≡ Some (term_in ts k)
 term_there ts k l =

@@ -20,7 +20,7 @@ use Rattle.pattern_core.specs.Walk.{walk, below, IsBefore, AreForward, IsCounted
 
 -- ---- the numbers below a count
 
-length-below : (n : ℕ) → length (below n) ≡ n
+pub length-below : (n : ℕ) → length (below n) ≡ n
 length-below zero = refl
 length-below (suc n) = let e = length-below n in omega (arith, length-append (below n) (n ∷ []))
 

@@ -5,13 +5,13 @@ use Rattle.pattern_core.specs.declared.pattern.GoalAnswer.{GoalAnswer}
 use Rattle.pattern_core.specs.declared.pattern.GoalAnswer.TheVariants as answer
 use Rattle.pattern_core.specs.declared.pattern.Pattern.{Pattern}
 use Rattle.isel_spec.specs.File.{File, Goal}
-use Rattle.pattern_core.specs.Pattern.{IsWellFormed, HasNoMemory, IsRule}
+use Rattle.pattern_core.specs.Pattern.{IsWellFormed}
+use Rattle.pattern_core.specs.Rule.{IsRule}
 use Rattle.pattern_core.specs.Walk.{IsCanonical}
 use Rattle.pattern_core.specs.Order.{pattern_cmp, IsRising}
 
 -- no well-formed pattern of at most this size is a rule
 pub record HasNoRule (f : File) (g : Goal) (size : ℕ) : Type 0 where
-  pub no_memory : HasNoMemory f g
   pub none : (p : Pattern) → IsWellFormed f g p → length p.nodes ≤ size → IsRule f g p → ⊥
 
 -- some is, of this size, and none is smaller
@@ -24,7 +24,6 @@ pub record IsLeastSize (f : File) (g : Goal) (size : ℕ) : Type 0 where
 
 -- the canonical rules of this size, in order, each once
 pub record AreRules (f : File) (g : Goal) (size : ℕ) (rules : List Pattern) : Type 0 where
-  pub no_memory : HasNoMemory f g
   pub rising : IsRising pattern_cmp rules
   pub members : (p : Pattern)
       → Contains rules p ↔ (IsWellFormed f g p × IsCanonical p × (length p.nodes ≡ size) × IsRule f g p)

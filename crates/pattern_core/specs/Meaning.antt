@@ -6,7 +6,7 @@ use Rattle.isel_spec.specs.declared.definitions.OpDef.{OpDef}
 use Rattle.isel_spec.specs.declared.spec.Spec.{Spec}
 use Rattle.isel_spec.specs.File.{scope}
 use Rattle.pattern_core.specs.declared.pattern.Node.{Node}
-use Rattle.pattern_core.specs.Pattern.{source_value, attr_values}
+use Rattle.pattern_core.specs.Rule.{source_value, attr_values}
 
 -- a node whose operation is there, and whose arguments and attributes have values of its sorts
 pub record IsNodeGiven (s : Spec) (n : Node) (inputs : List Value) (outs : List (List Value)) : Type 0 where

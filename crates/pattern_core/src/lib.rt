@@ -2,8 +2,11 @@
 //!
 //! - `pattern`: `Pattern`, `Node` and `Src`, and `GoalAnswer`, what a library says of a goal.
 //! - `well_formed`: `is_well_formed`, whether a pattern is one for a goal.
-//! - `walk`: `is_canonical`, whether its nodes stand in the order of its walk.
-//! - `meaning`: `eval` and `eval_goal`, the values that patterns and goals give.
+//! - `walk`: `is_canonical`, whether its nodes stand in the order of its walk, and `well_formed_is_forward`, the law
+//!   that it can be walked where it is well-formed.
+//! - `renaming`: `canonical`, the one renaming of a pattern of which that is so.
+//! - `meaning`: `eval` and `eval_goal`, the values that patterns and goals give, and `rules_are_plain`: where
+//!   there is no memory, a rule is one over values.
 //! - `comparison`: `order`, the order of patterns, and `order_is_total`, its law.
 //!
 //! Patterns as programs over components: Gulwani, Jha, Tiwari, Venkatesan, PLDI 2011; rules, and the
@@ -13,11 +16,13 @@
 mod comparison;
 mod meaning;
 mod pattern;
+mod renaming;
 mod walk;
 mod well_formed;
 
 pub use comparison::{order, order_is_total};
-pub use meaning::{eval, eval_goal};
+pub use meaning::{eval, eval_goal, rules_are_plain};
 pub use pattern::{GoalAnswer, Node, Pattern, Src};
-pub use walk::is_canonical;
+pub use renaming::canonical;
+pub use walk::{is_canonical, well_formed_is_forward};
 pub use well_formed::is_well_formed;

@@ -2,17 +2,21 @@
 //! far have their operations' sorts.
 
 ghost use Rattle.std.specs.Prelude.{◌≡◌, ℕ, ◌<◌, ◌≤◌, ◌++◌, List, [], length, map, Some, slice_get, unwrap_or, false};
-ghost use Rattle.std.specs.Prelude.{IfOk, OnOk, All};
+ghost use Rattle.std.specs.Prelude.{IfOk, OnOk, All, ◌↔◌};
 ghost use Rattle.bv_terms.specs.declared.op.TermId.{TermId};
 ghost use Rattle.bv_terms.specs.Term.{value};
+ghost use Rattle.bv_terms.specs.Memory.{Plain};
 ghost use Rattle.bv_terms.specs.Eval.{values_in};
 ghost use Rattle.bv_terms.specs.Sorts.{HaveSorts};
 ghost use Rattle.bv_terms.specs.WellSorted.{InputsFit};
 ghost use Rattle.bv_terms.specs.Table.{term_at};
 ghost use Rattle.isel_spec.specs.File.{Goal};
 ghost use Rattle.isel_spec.specs.Spec.{file};
-ghost use Rattle.pattern_core.specs.Pattern.{source_value, attr_values, op_results, outs_from, pattern_results};
-ghost use Rattle.pattern_core.specs.Pattern.{goal_results, AreFitting, IsWellFormed};
+ghost use Rattle.pattern_core.specs.Rule.{source_value, attr_values, op_results, outs_from, pattern_results};
+ghost use Rattle.pattern_core.specs.Rule.{goal_results, pattern_things, goal_things, IsRule, IsPlainRule};
+ghost use Rattle.pattern_core.specs.Rule.{TakesNoMemory};
+ghost use Rattle.pattern_core.specs.Pattern.{AreFitting, IsWellFormed};
+ghost use Rattle.pattern_core.specs.declared.pattern.Pattern.{Pattern};
 ghost use Rattle.pattern_core.specs.Meaning.{IsNodeGiven};
 
 use crate::pattern::{Node, Pattern, Src};
@@ -62,7 +66,8 @@ fn values_of(
     values_at(alloc, results, room)
 }
 
-/// The goal's results where its arguments have these values. An `Err` is out of memory.
+/// The goal's results where its arguments have these values; its results over values and memories are the
+/// same. An `Err` is out of memory.
 pub fn eval_goal(
     alloc: Global,
     spec: &Spec,
@@ -71,8 +76,10 @@ pub fn eval_goal(
 ) -> Result<Vec<Value>, AllocError>
     requires there { goal < length spec.now.goals }
     requires inputs { (g : Goal) → slice_get (file spec.now).goals goal ≡ Some g → HaveSorts g.args inputs.now }
-    ensures { IfOk result (λ v. (g : Goal) → slice_get (file spec.now).goals goal ≡ Some g
+    ensures values { IfOk result (λ v. (g : Goal) → slice_get (file spec.now).goals goal ≡ Some g
         → v.items ≡ goal_results g inputs.now) }
+    ensures things { IfOk result (λ v. (g : Goal) → slice_get (file spec.now).goals goal ≡ Some g
+        → map Plain v.items ≡ goal_things (file spec.now) g (map Plain inputs.now)) }
 {
     let mut room = vec![in alloc; Value::Bool(false); spec.terms.len()]?;
     let definition = spec.goal(goal);
@@ -196,7 +203,7 @@ fn all_results(
 }
 
 /// The results of a pattern that is well-formed for the goal, where the goal's arguments have these
-/// values. An `Err` is out of memory.
+/// values; its results over values and memories are the same. An `Err` is out of memory.
 pub fn eval(
     alloc: Global,
     spec: &Spec,
@@ -208,11 +215,24 @@ pub fn eval(
     requires well_formed { (g : Goal) → slice_get (file spec.now).goals goal ≡ Some g
         → IsWellFormed (file spec.now) g pattern.now }
     requires inputs { (g : Goal) → slice_get (file spec.now).goals goal ≡ Some g → HaveSorts g.args inputs.now }
-    ensures { IfOk result (λ v. v.items ≡ pattern_results (file spec.now) pattern.now inputs.now) }
+    ensures values { IfOk result (λ v. v.items ≡ pattern_results (file spec.now) pattern.now inputs.now) }
+    ensures things { IfOk result (λ v.
+        map Plain v.items ≡ pattern_things (file spec.now) pattern.now (map Plain inputs.now)) }
 {
     let mut room = vec![in alloc; Value::Bool(false); spec.terms.len()]?;
     let nodes = pattern.nodes.as_slice();
     let outs = all_results(alloc, spec, goal, nodes, inputs, &mut room)?;
     let sources = pattern.results.as_slice();
     source_values(alloc, inputs, outs.as_slice(), sources)
+}
+
+/// Where the goal takes no memory, a pattern that is well-formed for it is a rule exactly where it gives the
+/// goal's results on all values.
+pub fn rules_are_plain(spec: &Spec, goal: u32)
+    ensures { (g : Goal) (p : Pattern) → slice_get (file spec.now).goals goal ≡ Some g
+        → IsWellFormed (file spec.now) g p → TakesNoMemory g
+        → IsRule (file spec.now) g p ↔ IsPlainRule (file spec.now) g p }
+{
+    // That the terms make a table, and so are well-sorted, is known from a call alone.
+    spec.terms.len();
 }

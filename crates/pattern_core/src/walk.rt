@@ -1,12 +1,17 @@
-//! Whether a pattern's nodes stand in the order of its walk.
+//! Whether a pattern's nodes stand in the order of its walk, and that a well-formed pattern can be walked.
 //!
 //! As long as they do, the nodes left so far are those below a count. Once they are not, they never
 //! are again, as the walk only adds nodes at the end.
 
-ghost use Rattle.std.specs.Prelude.{◌≡◌, ◌↔◌, ℕ, ◌≤◌, length, IsTrue, IfSome};
+ghost use Rattle.std.specs.Prelude.{◌≡◌, ◌↔◌, ℕ, ◌≤◌, length, Some, slice_get, IsTrue, IfSome};
+ghost use Rattle.isel_spec.specs.File.{Goal};
+ghost use Rattle.isel_spec.specs.Spec.{file};
+ghost use Rattle.pattern_core.specs.declared.pattern.Pattern.{Pattern};
+ghost use Rattle.pattern_core.specs.Pattern.{IsWellFormed};
 ghost use Rattle.pattern_core.specs.Walk.{walk, below, IsBefore, AreForward, IsForward, IsCounted, IsCanonical};
 
 use crate::pattern::{Node, Pattern, Src};
+use isel_spec::Spec;
 
 /// How many nodes the walk has left after a source, where it had left those below a count; `None`
 /// where it leaves a node out of turn.
@@ -51,4 +56,14 @@ pub fn is_canonical(pattern: &Pattern) -> bool
         left = more;
     }
     left == nodes.len()
+}
+
+/// In a pattern that is well-formed for the goal each node is over earlier ones, and the results name nodes
+/// that are there.
+pub fn well_formed_is_forward(spec: &Spec, goal: u32)
+    ensures { (g : Goal) (p : Pattern) → slice_get (file spec.now).goals goal ≡ Some g
+        → IsWellFormed (file spec.now) g p → IsForward p }
+{
+    // That the terms make a table, and so are well-sorted, is known from a call alone.
+    spec.terms.len();
 }

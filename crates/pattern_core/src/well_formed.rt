@@ -1,17 +1,27 @@
 //! Whether a pattern is well-formed for a goal: each test of a part is exact, and so is the whole.
 
-ghost use Rattle.std.specs.Prelude.{◌≡◌, ◌↔◌, ℕ, ◌<◌, ◌≤◌, ◌^◌, List, length, map, Some, slice_get, IsTrue};
+ghost use Rattle.std.specs.Prelude.{◌≡◌, ◌↔◌, ℕ, ◌+◌, ◌<◌, ◌≤◌, ◌^◌, List, length, map, Some, slice_get, IsTrue};
+ghost use Rattle.std.specs.Prelude.{count_by, min, if◌then◌else◌};
 ghost use Rattle.bv_terms.specs.declared.value.Sort.{Sort};
+ghost use Rattle.bv_terms.specs.declared.value.Sort.TheVariants as sort;
 ghost use Rattle.bv_terms.specs.WellSorted.{sort_of};
+ghost use Rattle.pattern_core.specs.declared.pattern.Src.{Src};
+ghost use Rattle.pattern_core.specs.declared.pattern.Src.TheVariants.{Input, Out};
 ghost use Rattle.pattern_core.specs.declared.pattern.Node.{Node};
 ghost use Rattle.isel_spec.specs.File.{Goal};
 ghost use Rattle.isel_spec.specs.Spec.{file};
 ghost use Rattle.pattern_core.specs.Pattern.{operation_sort, source_sort, Pairwise, IsFitting, AreFitting, IsOf};
-ghost use Rattle.pattern_core.specs.Pattern.{IsAmong, IsUsed, IsWellFormed};
+ghost use Rattle.pattern_core.specs.Pattern.{IsAmong, IsUsed, same_source, times_named, IsLinearAt, IsWellFormed};
 
 use crate::pattern::{Node, Pattern, Src};
 use bv_terms::Sort;
 use isel_spec::Spec;
+
+/// The most inputs of a goal.
+const MOST_INPUTS: u8 = 4;
+
+/// The most results of an operation.
+const MOST_RESULTS: u8 = 3;
 
 /// Whether there is a sort, namely this one.
 fn has_sort(found: Option<Sort>, sort: Sort) -> bool
@@ -234,10 +244,116 @@ fn are_used(pattern: &Pattern) -> bool
     true
 }
 
+/// Whether two sources are equal. It is a function so that clauses can name the test.
+fn is_same(left: Src, right: Src) -> bool
+    ensures { result ≡ same_source left right }
+{
+    left == right
+}
+
+/// One more than a count where a test holds; a count goes no further than 2.
+fn one_more(times: u8, holds: bool) -> u8
+    requires { times ≤ 2 }
+    ensures { result ≡ min (times + (if holds then 1 else 0)) 2 }
+{
+    if holds && times < 2 { times + 1 } else { times }
+}
+
+/// How often a source is among these and was before, where 2 stands for more than once too.
+fn times_among(sources: &[Src], source: Src, before: u8) -> u8
+    requires { before ≤ 2 }
+    ensures { result ≡ min (before + count_by (same_source source) sources.now) 2 }
+{
+    let mut times = before;
+    for other in sources {
+        times = one_more(times, is_same(source, *other));
+    }
+    times
+}
+
+/// How often a pattern names a source, where 2 stands for more than once too.
+fn times_named(pattern: &Pattern, source: Src) -> u8
+    ensures { result ≡ min (times_named pattern.now source) 2 }
+{
+    let mut times = 0;
+    for node in pattern.nodes.as_slice() {
+        times = times_among(node.args.as_slice(), source, times);
+    }
+    times_among(pattern.results.as_slice(), source, times)
+}
+
+/// Whether the pattern names a source once.
+fn is_named_once(pattern: &Pattern, source: Src) -> bool
+    ensures { IsTrue result ↔ (times_named pattern.now source ≡ 1) }
+{
+    times_named(pattern, source) == 1
+}
+
+/// Whether the pattern names a source once, if that is a memory.
+fn is_linear_at(spec: &Spec, goal: u32, pattern: &Pattern, source: Src) -> bool
+    requires { goal < length spec.now.goals }
+    ensures { (g : Goal) → slice_get (file spec.now).goals goal ≡ Some g →
+        (IsTrue result ↔ IsLinearAt (file spec.now) g pattern.now source) }
+{
+    let nodes = pattern.nodes.as_slice();
+    let found = source_sort(spec, goal, nodes, nodes.len(), source);
+    if !has_sort(found, Sort::Mem) {
+        return true;
+    }
+    is_named_once(pattern, source)
+}
+
+/// Whether the pattern names each input once that is a memory.
+fn are_inputs_linear(spec: &Spec, goal: u32, pattern: &Pattern) -> bool
+    requires { goal < length spec.now.goals }
+    ensures { (g : Goal) → slice_get (file spec.now).goals goal ≡ Some g →
+        (IsTrue result ↔ ((k : ℕ) → k < 4 → IsLinearAt (file spec.now) g pattern.now (Input k))) }
+{
+    for input in 0..MOST_INPUTS {
+        if !is_linear_at(spec, goal, pattern, Src::Input(input)) {
+            return false;
+        }
+    }
+    true
+}
+
+/// Whether the pattern names each result of a node once that is a memory.
+fn is_node_linear(spec: &Spec, goal: u32, pattern: &Pattern, node: u8) -> bool
+    requires { goal < length spec.now.goals }
+    ensures { (g : Goal) → slice_get (file spec.now).goals goal ≡ Some g →
+        (IsTrue result ↔ ((r : ℕ) → r < 3 → IsLinearAt (file spec.now) g pattern.now (Out node r))) }
+{
+    for place in 0..MOST_RESULTS {
+        let source = Src::Out {
+            node,
+            result: place,
+        };
+        if !is_linear_at(spec, goal, pattern, source) {
+            return false;
+        }
+    }
+    true
+}
+
+/// Whether the pattern names each memory once.
+fn is_linear(spec: &Spec, goal: u32, pattern: &Pattern) -> bool
+    requires there { goal < length spec.now.goals }
+    requires few { length pattern.now.nodes ≤ 6 }
+    ensures { (g : Goal) → slice_get (file spec.now).goals goal ≡ Some g →
+        (IsTrue result ↔ ((s : Src) → IsLinearAt (file spec.now) g pattern.now s)) }
+{
+    for node in 0..pattern.nodes.len() {
+        if !is_node_linear(spec, goal, pattern, node as u8) {
+            return false;
+        }
+    }
+    are_inputs_linear(spec, goal, pattern)
+}
+
 /// Whether the pattern is well-formed for the goal in that place of the file: it has at most six
 /// nodes, its operations are in the file, each attribute is below 2^width, each argument and each
-/// result has a source of its sort, an input or an earlier node, and each node is used by another or
-/// by a result. It takes no memory.
+/// result has a source of its sort, an input or an earlier node, each node is used by another or by a
+/// result, and each memory is named once. It takes no memory.
 pub fn is_well_formed(spec: &Spec, goal: u32, pattern: &Pattern) -> bool
     requires { goal < length spec.now.goals }
     ensures { (g : Goal) → slice_get (file spec.now).goals goal ≡ Some g
@@ -245,6 +361,9 @@ pub fn is_well_formed(spec: &Spec, goal: u32, pattern: &Pattern) -> bool
 {
     let nodes = pattern.nodes.as_slice();
     if nodes.len() > 6 || !are_fitting(spec, goal, nodes) {
+        return false;
+    }
+    if !is_linear(spec, goal, pattern) {
         return false;
     }
     let results = pattern.results.as_slice();

@@ -9,3 +9,13 @@ pub mod LibraryLemmas
 pub mod SoundLemmas
 pub mod TriedLemmas
 pub mod ResultLemmas
+pub mod ExtentLemmas
+pub mod TrialLemmas
+pub mod OrderingLemmas
+pub mod ChoiceLemmas
+pub mod TakenLemmas
+pub mod NamedLemmas
+pub mod FollowLemmas
+pub mod GrownLemmas
+pub mod KeptLemmas
+pub mod CandidateLemmas

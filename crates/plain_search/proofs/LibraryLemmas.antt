@@ -8,14 +8,16 @@ use Rattle.std.specs.Cmp.Lexicographic.{slice_cmp}
 use Rattle.std.specs.declared.cmp.Ordering.{Ordering}
 use Rattle.std.specs.declared.cmp.Ordering.TheVariants.{Less, Equal}
 use Rattle.bv_terms.specs.declared.value.Sort.{Sort}
+use Rattle.bv_terms.specs.declared.value.Sort.TheVariants as sort
 use Rattle.bv_terms.specs.Term.{Term, value}
 use Rattle.bv_terms.specs.Sorts.{same_sort}
 use Rattle.bv_terms.specs.WellSorted.{sort_of}
-use Rattle.isel_spec.specs.File.{File, Operation, Goal, stays_in}
+use Rattle.isel_spec.specs.File.{File, Operation, Goal}
 use Rattle.pattern_core.specs.declared.pattern.Src.TheVariants.{Input}
 use Rattle.pattern_core.specs.declared.pattern.Node.{Node}
 use Rattle.pattern_core.specs.declared.pattern.Pattern.{Pattern}
-use Rattle.pattern_core.specs.Pattern.{HasNoMemory, IsRule, IsWellFormed}
+use Rattle.pattern_core.specs.Pattern.{IsWellFormed}
+use Rattle.pattern_core.specs.Rule.{TakesNoMemory, IsRule, IsPlainRule}
 use Rattle.pattern_core.specs.Walk.{IsCanonical}
 use Rattle.pattern_core.specs.Order.{source_cmp, pattern_cmp, IsRising}
 use Rattle.pattern_core.specs.Library.{AreRules, IsLibrary}
@@ -43,16 +45,22 @@ use Rattle.list_lemmas.proofs.Orders.{nat_cmp-less as nat_cmp-lt, nat_cmp-same a
 -- what the enumeration is given
 pub record IsTask (f : File) (g : Goal) (w : Wanted) : Type 0 where
   pub plain : (o : Operation) → Contains f.ops o → IsPlain o
-  pub no_memory : HasNoMemory f g
+  pub no_memory : In g.args sort.Mem → ⊥
   pub term : Term
   pub results : g.results ≡ term ∷ []
   pub wanted : IsWanted f g w
+  pub of_plain : (p : Pattern) → IsWellFormed f g p → IsRule f g p ↔ IsPlainRule f g p
 
 sorted : (f : File) (g : Goal) (w : Wanted) (k : IsTask f g w) → sort_of f.pointer k.term ≡ Some w.sort
 sorted f g w k = ap (λ rs. sort_of f.pointer (result_in rs)) (sym k.results) ∙ k.wanted.sort
 
 cases_are : (f : File) (g : Goal) (w : Wanted) (k : IsTask f g w) → w.cases.items ≡ cases_of g.args k.term
 cases_are f g w k = k.wanted.cases ∙ ap (λ rs. cases_of g.args (result_in rs)) k.results
+
+-- nor is the result that is wanted a memory
+no_memory_wanted : (f : File) (g : Goal) (w : Wanted) (k : IsTask f g w) → w.sort ≡ sort.Mem → ⊥
+no_memory_wanted f g w k e =
+    no_memory f.pointer g.args (result_in g.results) k.no_memory k.wanted.stays (k.wanted.sort ∙ ap (λ s. Some s) e)
 
 -- what a library's rules of one size are
 abbrev pub IsRuleOfSize : File → Goal → ℕ → Pattern → Type 0
@@ -61,9 +69,9 @@ IsRuleOfSize f g size p = IsWellFormed f g p × IsCanonical p × (length p.nodes
 -- ---- no node
 
 input_decides : (f : File) (g : Goal) (w : Wanted) (k : IsTask f g w) (place : ℕ)
-    → (input_agrees w.cases.items place ≡ true) ↔ IsRule f g (input_pattern place)
+    → (input_agrees w.cases.items place ≡ true) ↔ IsPlainRule f g (input_pattern place)
 input_decides f g w k place =
-    subst (λ cs. (input_agrees cs place ≡ true) ↔ IsRule f g (input_pattern place)) (sym (cases_are f g w k))
+    subst (λ cs. (input_agrees cs place ≡ true) ↔ IsPlainRule f g (input_pattern place)) (sym (cases_are f g w k))
     (decides_rule f g k.term (input_pattern place) (λ vs. input_at vs place) k.no_memory k.results
     (GivesValue-input f place))
 
@@ -76,12 +84,10 @@ rule_from_input f g w k p h =
     let there : slice_get g.args r.0 ≡ Some w.sort =
     subst (λ n. slice_get g.args n ≡ Some w.sort) (omega (arith, at.1))
     (subst (λ ss. slice_get ss at.0 ≡ Some w.sort) k.wanted.sorts at.2) in
-    subst (IsRuleOfSize f g 0) r.2 (
-      IsWellFormed-input f g k.term w.sort r.0 k.results (sorted f g w k) there,
-      IsCanonical-input r.0,
-      refl,
-      (input_decides f g w k r.0).0 kept.1,
-    )
+    let wf = IsWellFormed-input f g k.term w.sort r.0 k.no_memory k.results (sorted f g w k) there in
+    let rule = (input_decides f g w k r.0).0 kept.1 in
+    subst (IsRuleOfSize f g 0) r.2
+    (wf, IsCanonical-input r.0, refl, (k.of_plain (input_pattern r.0) wf).1 rule)
 
 nodes_nil : (ns : List Node) → length ns ≡ 0 → ns ≡ []
 nodes_nil [] h = refl
@@ -95,7 +101,7 @@ input_from_rule f g w k p wf none rule =
     subst (λ ss. slice_get ss r.0 ≡ Some w.sort) (sym k.wanted.sorts) r.1 in
     let place : In (places w.sorts.items w.sort) r.0 =
     subst (In (places w.sorts.items w.sort)) (omega arith) (In-places_from 0 w.sort w.sorts.items r.0 there) in
-    let agrees = (input_decides f g w k r.0).1 (subst (IsRule f g) (sym r.2) rule) in
+    let agrees = (input_decides f g w k r.0).1 (subst (IsPlainRule f g) (sym r.2) ((k.of_plain p wf).0 rule)) in
     subst (In (input_rules w)) r.2
     (In-map input_pattern (filter (input_agrees w.cases.items) (places w.sorts.items w.sort)) r.0
     (In-filter (input_agrees w.cases.items) (places w.sorts.items w.sort) r.0 place agrees))
@@ -147,11 +153,11 @@ in_rules_from f w op (q ∷ os) p (suc d) o e h =
 
 operation_decides : (f : File) (g : Goal) (w : Wanted) (k : IsTask f g w) (op : ℕ) (o : Operation)
     (u : IsUsable f g w.sort op o) (ks : List ℕ)
-    → (term_agrees w.cases.items (result_in o.results) ks ≡ true) ↔ IsRule f g (operation_pattern op ks)
+    → (term_agrees w.cases.items (result_in o.results) ks ≡ true) ↔ IsPlainRule f g (operation_pattern op ks)
 operation_decides f g w k op o u ks =
-    subst (λ cs. (term_agrees cs (result_in o.results) ks ≡ true) ↔ IsRule f g (operation_pattern op ks))
+    subst (λ cs. (term_agrees cs (result_in o.results) ks ≡ true) ↔ IsPlainRule f g (operation_pattern op ks))
     (sym (cases_are f g w k))
-    (subst (λ t. (term_agrees (cases_of g.args k.term) t ks ≡ true) ↔ IsRule f g (operation_pattern op ks))
+    (subst (λ t. (term_agrees (cases_of g.args k.term) t ks ≡ true) ↔ IsPlainRule f g (operation_pattern op ks))
     (ap result_in (sym u.results))
     (decides_rule f g k.term (operation_pattern op ks)
     (λ vs. value (map (input_at vs) ks) u.result) k.no_memory k.results
@@ -183,12 +189,12 @@ rule_from_operation f g w k op o p there h =
     let kept = In_of_filter agree (tuples inputs o.args) r.0 r.1 in
     let fit : Fit g.args o.args r.0 =
     subst (λ ss. Fit ss o.args r.0) k.wanted.sorts (Fit-from_tuples inputs o.args r.0 kept.0) in
-    subst (IsRuleOfSize f g 1) r.2 (
-      IsWellFormed-operation f g k.term w.sort op o r.0 k.results (sorted f g w k) u fit,
-      IsCanonical-operation op r.0,
-      refl,
-      (operation_decides f g w k op o u r.0).0 kept.1,
-    )
+    let wf =
+    IsWellFormed-operation f g k.term w.sort op o r.0 k.no_memory (no_memory_wanted f g w k) k.results (sorted f g w k)
+    u fit in
+    let rule = (operation_decides f g w k op o u r.0).0 kept.1 in
+    subst (IsRuleOfSize f g 1) r.2
+    (wf, IsCanonical-operation op r.0, refl, (k.of_plain (operation_pattern op r.0) wf).1 rule)
 
 rule_from_operations : (f : File) (g : Goal) (w : Wanted) (k : IsTask f g w) (p : Pattern)
     → In (rules_from f w 0 f.ops) p
@@ -209,7 +215,8 @@ operation_from_rule f g w k p wf one rule =
     let there : In (tuples inputs o.args) r.places =
     In-tuples inputs o.args r.places (subst (λ ss. Fit ss o.args r.places) (sym k.wanted.sorts) r.fit) in
     let passes : agree r.places ≡ true =
-    (operation_decides f g w k r.op o r.usable r.places).1 (subst (IsRule f g) (sym r.is) rule) in
+    (operation_decides f g w k r.op o r.usable r.places).1
+    (subst (IsPlainRule f g) (sym r.is) ((k.of_plain p wf).0 rule)) in
     let listed : In (map (operation_pattern r.op) (filter agree (tuples inputs o.args))) p =
     subst (In (map (operation_pattern r.op) (filter agree (tuples inputs o.args)))) r.is
     (In-map (operation_pattern r.op) (filter agree (tuples inputs o.args)) r.places
@@ -311,7 +318,6 @@ IsOrdered-rules_from f w op (o ∷ os) =
 
 input_AreRules : (f : File) (g : Goal) (w : Wanted) → IsTask f g w → AreRules f g 0 (input_rules w)
 input_AreRules f g w k = record {
-  no_memory = k.no_memory;
   rising = IsRising-input_rules w;
   members =
       λ p. (
@@ -322,7 +328,6 @@ input_AreRules f g w k = record {
 
 operation_AreRules : (f : File) (g : Goal) (w : Wanted) → IsTask f g w → AreRules f g 1 (rules_from f w 0 f.ops)
 operation_AreRules f g w k = record {
-  no_memory = k.no_memory;
   rising = IsRising-from_ordered pattern_cmp (rules_from f w 0 f.ops) (IsOrdered-rules_from f w 0 f.ops);
   members =
       λ p. (
@@ -363,10 +368,7 @@ IsLibrary-inputs f g w bound k some =
 pub IsLibrary-no_inputs : (f : File) (g : Goal) (w : Wanted) → IsTask f g w → input_rules w ≡ [] → IsLibrary f g 0 []
 IsLibrary-no_inputs f g w k none =
     inl (
-      record {
-        no_memory = k.no_memory;
-        none = λ p wf size rule. no_input_rule f g w k none p wf (omega arith) rule;
-      },
+      record { none = λ p wf size rule. no_input_rule f g w k none p wf (omega arith) rule },
       refl,
     )
 
@@ -375,7 +377,7 @@ pub IsLibrary-operations : (f : File) (g : Goal) (w : Wanted) → IsTask f g w �
 IsLibrary-operations f g w k none =
     elim (cases_nil (rules_from f w 0 f.ops)) [
       | inl empty ↦ inl (
-        record { no_memory = k.no_memory; none = λ p wf size rule. by_size p wf rule empty (length p.nodes) refl size },
+        record { none = λ p wf size rule. by_size p wf rule empty (length p.nodes) refl size },
         empty,
       )
       | inr x ↦ (let r = rule_from_operations f g w k x.0 x.1 in
@@ -402,19 +404,22 @@ IsLibrary-operations f g w k none =
 
 -- ---- what the code answers
 
+-- the law of plain rules for a goal
+abbrev AreRulesPlain : File → Goal → Type 0
+AreRulesPlain f g = (p : Pattern) → IsWellFormed f g p → TakesNoMemory g → IsRule f g p ↔ IsPlainRule f g p
+
 pub IsTask-from_searchable : (f : File) (place : ℕ) (g : Goal) (w : Wanted) → IsSearchable f place
-    → slice_get f.goals place ≡ Some g → IsWanted f g w → IsTask f g w
-IsTask-from_searchable f place g w searchable there wanted =
+    → slice_get f.goals place ≡ Some g → IsWanted f g w → AreRulesPlain f g → IsTask f g w
+IsTask-from_searchable f place g w searchable there wanted law =
     let small = searchable.goal g there in
     let only = one_of_length g.results small.results in
     record {
       plain = searchable.operations;
-      no_memory =
-          no_memory f g only.0 only.1 small.plain
-          (subst (λ ts. stays_in g.args (result_in ts) ≡ true) only.1 wanted.stays);
+      no_memory = λ i. small.plain (Contains-from_In g.args sort.Mem i);
       term = only.0;
       results = only.1;
       wanted = wanted;
+      of_plain = λ p wf. law p wf small.plain;
     }
 
 pub IsLibrary-from_inputs : (f : File) (g : Goal) (w : Wanted) (bound : ℕ) (found : List Pattern) → IsTask f g w

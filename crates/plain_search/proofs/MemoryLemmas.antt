@@ -1,6 +1,6 @@
 -- A term over inputs that are no memory is none.
-use Rattle.std.proofs.Common.{◌≡◌, ℕ, true, false, List, [], ◌∷◌, map, Option, Some, None, inl, inr}
-use Rattle.std.proofs.Common.{slice_get, Contains, sym, ap, subst}
+use Rattle.std.proofs.Common.{◌≡◌, ℕ, true, false, List, Option, Some, None, inl, inr}
+use Rattle.std.proofs.Common.{slice_get, sym, ap, subst}
 use Rattle.std.specs.Option.{option_map_or}
 use Rattle.std.proofs.lemmas.Bool.{and_parts}
 use Rattle.bv_terms.specs.declared.op.Op.{Op}
@@ -11,9 +11,8 @@ use Rattle.bv_terms.specs.Sorts.{same_sort}
 use Rattle.bv_terms.specs.WellSorted.{sort_of}
 use Rattle.bv_terms.proofs.SignatureLemmas.{same_sort-true}
 use Rattle.bv_terms.proofs.NoMemory.{IsMemoryInput, memory_from}
-use Rattle.isel_spec.specs.File.{File, Goal, is_in_scope, stays_in, all_stay_in}
-use Rattle.pattern_core.specs.Pattern.{HasNoMemory}
-use Rattle.list_lemmas.proofs.Members.{Contains-from_In, In, In-from_Contains, In-slice_get}
+use Rattle.isel_spec.specs.File.{is_in_scope, stays_in, all_stay_in}
+use Rattle.list_lemmas.proofs.Members.{In, In-slice_get}
 
 sort_at : (x : Option Sort) → option_map_or (same_sort sort.Mem) x false ≡ true → x ≡ Some sort.Mem
 sort_at None h = cc
@@ -41,18 +40,7 @@ memory_among p ss (Apply o (Then t ts)) e h =
       | inr first ↦ memory_among p ss t (and_parts (stays_in ss t) (all_stay_in ss ts) parts.1).0 first
     ]
 
-pub no_memory : (f : File) (g : Goal) (t : Term) → g.results ≡ t ∷ [] → ¬ Contains g.args sort.Mem → stays_in g.args t
-    ≡ true
-    → HasNoMemory f g
-no_memory f g t one plain stays = record {
-  args = plain;
-  results = λ h.
-      let i =
-      subst (λ ts. In (map (sort_of f.pointer) ts) (Some sort.Mem)) one
-      (In-from_Contains (map (sort_of f.pointer) g.results) (Some sort.Mem) h) in
-      by i;
-}
-  where
-    by : In (map (sort_of f.pointer) (t ∷ [])) (Some sort.Mem) → ⊥
-    by (inl e) = plain (Contains-from_In g.args sort.Mem (memory_among f.pointer g.args t stays e))
-    by (inr h) = h
+-- so none is, where no input is one
+pub no_memory : (p : ℕ) (ss : List Sort) (t : Term) → (In ss sort.Mem → ⊥) → stays_in ss t ≡ true
+    → sort_of p t ≡ Some sort.Mem → ⊥
+no_memory p ss t none stays h = none (memory_among p ss t stays h)

@@ -4,6 +4,7 @@ use Rattle.std.proofs.Common.{sym, ap, subst, ◌∙◌, arith, slice_get, Conta
 use Rattle.std.specs.Prelude.{fold, option_and_then}
 use Rattle.std.proofs.lemmas.Bool.{le-ltb, cond-false}
 use Rattle.bv_terms.specs.declared.value.Sort.{Sort}
+use Rattle.bv_terms.specs.declared.value.Sort.TheVariants as sort
 use Rattle.bv_terms.specs.Term.{Term}
 use Rattle.bv_terms.specs.WellSorted.{sort_of}
 use Rattle.isel_spec.specs.File.{File, Operation, Goal}
@@ -13,6 +14,7 @@ use Rattle.pattern_core.specs.declared.pattern.Node.{Node}
 use Rattle.pattern_core.specs.declared.pattern.Pattern.{Pattern}
 use Rattle.pattern_core.specs.Pattern.{source_sort, operation_sort, Pairwise, IsFitting, IsUsed, IsWellFormed, args_of}
 use Rattle.pattern_core.specs.Walk.{walk, IsCanonical}
+use Rattle.pattern_core.proofs.SourceLemmas.{earlier_node}
 use Rattle.plain_search.specs.Enumeration.{IsPlain}
 use Rattle.plain_search.specs.Candidates.{input_pattern, operation_pattern}
 use Rattle.plain_search.proofs.TupleLemmas.{Fit}
@@ -36,14 +38,25 @@ IsCanonical-operation op ks = ap (λ l. l ++ 0 ∷ []) (walk_over_inputs (operat
 
 -- ---- no node
 
-pub IsWellFormed-input : (f : File) (g : Goal) (t : Term) (s : Sort) (k : ℕ) → g.results ≡ t ∷ [] → sort_of f.pointer t
-    ≡ Some s
-    → slice_get g.args k ≡ Some s → IsWellFormed f g (input_pattern k)
-IsWellFormed-input f g t s k one sorted there = record {
+none_earlier : (f : File) (g : Goal) (nodes : List Node) (node result : ℕ)
+    → source_sort f g nodes 0 (Out node result) ≡ None
+none_earlier f g nodes node result = cond-false (nat_lt node 0) _ None (le-ltb node 0 (omega arith))
+
+-- no source is a memory where no argument is one, and there is no node yet
+no_memory_without_nodes : (f : File) (g : Goal) (nodes : List Node) → (In g.args sort.Mem → ⊥) → (x : Src)
+    → source_sort f g nodes 0 x ≡ Some sort.Mem → ⊥
+no_memory_without_nodes f g nodes none (Input i) e = none (In-slice_get g.args i sort.Mem e)
+no_memory_without_nodes f g nodes none (Out node result) e = let no = none_earlier f g nodes node result in cc
+
+pub IsWellFormed-input : (f : File) (g : Goal) (t : Term) (s : Sort) (k : ℕ) → (In g.args sort.Mem → ⊥)
+    → g.results ≡ t ∷ [] → sort_of f.pointer t ≡ Some s → slice_get g.args k ≡ Some s
+    → IsWellFormed f g (input_pattern k)
+IsWellFormed-input f g t s k none one sorted there = record {
   size = omega arith;
   nodes = λ j n e. cc;
   results = (λ i. (there ∙ sym sorted) i ∷ []) ∙ ap (map (sort_of f.pointer)) (sym one);
   used = λ j l. absurd (omega arith);
+  linear = λ x e. absurd (no_memory_without_nodes f g [] none x e);
 }
 
 -- a list of one source, by its sort
@@ -62,10 +75,6 @@ results_of : (f : File) (g : Goal) (t : Term) (s : Sort) (p : Pattern) → g.res
 results_of f g t s p one sorted wf =
     one_source f g p.nodes (length p.nodes) s p.results
     (wf.results ∙ ap (map (sort_of f.pointer)) one ∙ (λ i. sorted i ∷ []))
-
-none_earlier : (f : File) (g : Goal) (nodes : List Node) (node result : ℕ)
-    → source_sort f g nodes 0 (Out node result) ≡ None
-none_earlier f g nodes node result = cond-false (nat_lt node 0) _ None (le-ltb node 0 (omega arith))
 
 -- an input in a place of that sort
 abbrev pub IsInputOf : Goal → Sort → Pattern → Type 0
@@ -110,14 +119,38 @@ operation_result f g s op o n u e =
     ap (λ x. operation_sort f x 0) there ∙ ap (λ rs. option_and_then (sort_of f.pointer) (slice_get rs 0)) u.results
     ∙ u.sorted
 
+-- the only result is result 0
+result_zero : (p : ℕ) (us : List Term) (u : Term) (s : Sort) (result : ℕ) → us ≡ u ∷ []
+    → option_and_then (sort_of p) (slice_get us result) ≡ Some s → (result ≡ 0) × (sort_of p u ≡ Some s)
+result_zero p us u s zero e h = (refl, ap (λ xs. option_and_then (sort_of p) (slice_get xs 0)) (sym e) ∙ h)
+result_zero p us u s (suc k) e h = let past : option_and_then (sort_of p) (slice_get (u ∷ []) (suc k)) ≡ Some s =
+    ap (λ xs. option_and_then (sort_of p) (slice_get xs (suc k))) (sym e) ∙ h in cc
+
+-- nor after one node, whose result is no memory
+no_memory_after_one : (f : File) (g : Goal) (s : Sort) (op : ℕ) (o : Operation) (n : Node) → IsUsable f g s op o
+    → n.op ≡ op → (In g.args sort.Mem → ⊥) → (s ≡ sort.Mem → ⊥) → (x : Src)
+    → source_sort f g (n ∷ []) 1 x ≡ Some sort.Mem → ⊥
+no_memory_after_one f g s op o n u e none other (Input i) h = none (In-slice_get g.args i sort.Mem h)
+no_memory_after_one f g s op o n u e none other (Out zero r) h =
+    let there : slice_get f.ops n.op ≡ Some o = ap (slice_get f.ops) e ∙ u.in_file in
+    let at : option_and_then (sort_of f.pointer) (slice_get o.results r) ≡ Some sort.Mem =
+    ap (λ x. operation_sort f x r) (sym there) ∙ h in
+    let zeroth = result_zero f.pointer o.results u.result sort.Mem r u.results at in
+    let same : Some s ≡ Some sort.Mem = sym u.sorted ∙ zeroth.1 in
+    other (cc)
+no_memory_after_one f g s op o n u e none other (Out (suc k) r) h =
+    let before : suc k < 1 = earlier_node f g (n ∷ []) 1 (suc k) r sort.Mem h in
+    omega (arith, before)
+
 pub IsWellFormed-operation : (f : File) (g : Goal) (t : Term) (s : Sort) (op : ℕ) (o : Operation) (ks : List ℕ)
-    → g.results ≡ t ∷ [] → sort_of f.pointer t ≡ Some s → IsUsable f g s op o → Fit g.args o.args ks
-    → IsWellFormed f g (operation_pattern op ks)
-IsWellFormed-operation f g t s op o ks one sorted u fit = record {
+    → (In g.args sort.Mem → ⊥) → (s ≡ sort.Mem → ⊥) → g.results ≡ t ∷ [] → sort_of f.pointer t ≡ Some s
+    → IsUsable f g s op o → Fit g.args o.args ks → IsWellFormed f g (operation_pattern op ks)
+IsWellFormed-operation f g t s op o ks none other one sorted u fit = record {
   size = omega arith;
   nodes = λ j n e. node j n e;
   results = (λ i. (operation_result f g s op o n0 u refl ∙ sym sorted) i ∷ []) ∙ ap (map (sort_of f.pointer)) (sym one);
   used = λ j l. used j l;
+  linear = λ x e. absurd (no_memory_after_one f g s op o n0 u refl none other x e);
 }
   where
     n0 : Node
@@ -188,13 +221,6 @@ used_by_result n ks r p e nodes results h =
           (subst (λ ns. In (args_of (slice_get ns b.0)) (Out 0 h.0)) nodes
           (In-from_Contains (args_of (slice_get p.nodes b.0)) (Out 0 h.0) b.1)))
     ]
-
--- the only result is result 0
-result_zero : (p : ℕ) (us : List Term) (u : Term) (s : Sort) (result : ℕ) → us ≡ u ∷ []
-    → option_and_then (sort_of p) (slice_get us result) ≡ Some s → (result ≡ 0) × (sort_of p u ≡ Some s)
-result_zero p us u s zero e h = (refl, ap (λ xs. option_and_then (sort_of p) (slice_get xs 0)) (sym e) ∙ h)
-result_zero p us u s (suc k) e h = let past : option_and_then (sort_of p) (slice_get (u ∷ []) (suc k)) ≡ Some s =
-    ap (λ xs. option_and_then (sort_of p) (slice_get xs (suc k))) (sym e) ∙ h in cc
 
 pub IsOverInputs-from_well_formed : (f : File) (g : Goal) (t : Term) (s : Sort) (p : Pattern) (n : Node)
     → ((o : Operation) → Contains f.ops o → IsPlain o) → g.results ≡ t ∷ [] → sort_of f.pointer t ≡ Some s

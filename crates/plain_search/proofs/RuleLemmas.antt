@@ -1,4 +1,4 @@
--- A pattern agrees with the goal in all cases exactly where it is a rule.
+-- A pattern agrees with the goal in all cases exactly where it is a rule over values.
 use Rattle.std.proofs.Common.{◌≡◌, ℕ, ◌^◌, Bool, true, false, List, [], ◌∷◌, ◌++◌, map, Some, ◌↔◌}
 use Rattle.std.proofs.Common.{refl, sym, ap, subst, ◌∙◌, arith, slice_get, eqb, sum_by}
 use Rattle.std.specs.Prelude.{unwrap_or}
@@ -15,13 +15,13 @@ use Rattle.isel_spec.specs.File.{File, Operation, Goal}
 use Rattle.bv_terms.specs.Sorts.{width_of}
 use Rattle.pattern_core.specs.declared.pattern.Src.TheVariants.{Input}
 use Rattle.pattern_core.specs.declared.pattern.Pattern.{Pattern}
-use Rattle.pattern_core.specs.Pattern.{source_value, attr_values, op_results, pattern_results, HasNoMemory, IsRule}
+use Rattle.pattern_core.specs.Rule.{source_value, attr_values, op_results, pattern_results, IsPlainRule}
 use Rattle.plain_search.specs.declared.cases.Case.{Case}
 use Rattle.plain_search.specs.Cases.{same_value, input_at, inputs_numbered, case_numbered, cases_of}
 use Rattle.plain_search.specs.Candidates.{input_pattern, operation_pattern}
 use Rattle.plain_search.proofs.InputLemmas.{HaveSorts-numbered, IsNumbered-from_sorts}
 use Rattle.plain_search.proofs.PatternLemmas.{IsUsable}
-use Rattle.list_lemmas.proofs.Members.{Contains-from_In, In, In-map, In_of_map, in_range, list_all_from_in}
+use Rattle.list_lemmas.proofs.Members.{In, In-map, In_of_map, in_range, list_all_from_in}
 use Rattle.list_lemmas.proofs.Members.{list_all_in}
 
 pub same_value-true : (a b : Value) → same_value a b ≡ true → a ≡ b
@@ -72,34 +72,30 @@ passes_all_cases p ss t plain h =
 abbrev pub GivesValue : File → Pattern → (List Value → Value) → Type 0
 GivesValue f p v = (vs : List Value) → pattern_results f p vs ≡ v vs ∷ []
 
-pub IsRule-from_values : (f : File) (g : Goal) (t : Term) (p : Pattern) (v : List Value → Value) → HasNoMemory f g
+pub IsPlainRule-from_values : (f : File) (g : Goal) (t : Term) (p : Pattern) (v : List Value → Value)
     → g.results ≡ t ∷ [] → GivesValue f p v → ((vs : List Value) → HaveSorts g.args vs → v vs ≡ value vs t)
-    → IsRule f g p
-IsRule-from_values f g t p v plain one gives h = record {
-  no_memory = plain;
-  same = λ vs sorts. gives vs ∙ (λ i. h vs sorts i ∷ []) ∙ ap (map (value vs)) (sym one);
-}
+    → IsPlainRule f g p
+IsPlainRule-from_values f g t p v one gives h =
+    λ vs sorts. gives vs ∙ (λ i. h vs sorts i ∷ []) ∙ ap (map (value vs)) (sym one)
 
 same_head : {X : Type 0} (x y : X) → x ∷ [] ≡ y ∷ [] → x ≡ y
 same_head x y e = cc
 
 pub values_from_rule : (f : File) (g : Goal) (t : Term) (p : Pattern) (v : List Value → Value) → g.results ≡ t ∷ []
-    → GivesValue f p v → IsRule f g p → (vs : List Value) → HaveSorts g.args vs → v vs ≡ value vs t
+    → GivesValue f p v → IsPlainRule f g p → (vs : List Value) → HaveSorts g.args vs → v vs ≡ value vs t
 values_from_rule f g t p v one gives rule vs sorts =
-    same_head (v vs) (value vs t) (sym (gives vs) ∙ rule.same vs sorts ∙ ap (map (value vs)) one)
+    same_head (v vs) (value vs t) (sym (gives vs) ∙ rule vs sorts ∙ ap (map (value vs)) one)
 
-pub no_memory_in : (f : File) (g : Goal) → HasNoMemory f g → In g.args sort.Mem → ⊥
-no_memory_in f g plain i = plain.args (Contains-from_In g.args sort.Mem i)
-
--- a test of one value in each case decides whether the pattern is a rule
-pub decides_rule : (f : File) (g : Goal) (t : Term) (p : Pattern) (v : List Value → Value) → HasNoMemory f g
+-- a test of one value in each case decides whether the pattern is a rule over values
+pub decides_rule : (f : File) (g : Goal) (t : Term) (p : Pattern) (v : List Value → Value) → (In g.args sort.Mem → ⊥)
     → g.results ≡ t ∷ [] → GivesValue f p v
-    → (list_all (λ (c : Case). same_value (v c.inputs.values) c.result) (cases_of g.args t) ≡ true) ↔ IsRule f g p
-decides_rule f g t p v plain one gives = (
-  λ h. IsRule-from_values f g t p v plain one gives
+    → (list_all (λ (c : Case). same_value (v c.inputs.values) c.result) (cases_of g.args t) ≡ true)
+    ↔ IsPlainRule f g p
+decides_rule f g t p v none one gives = (
+  λ h. IsPlainRule-from_values f g t p v one gives
       (λ vs sorts. same_value-true (v vs) (value vs t)
       (passes_everywhere (λ (c : Case). same_value (v c.inputs.values) c.result) g.args t h vs sorts)),
-  λ rule. passes_all_cases (λ (c : Case). same_value (v c.inputs.values) c.result) g.args t (no_memory_in f g plain)
+  λ rule. passes_all_cases (λ (c : Case). same_value (v c.inputs.values) c.result) g.args t none
       (λ vs sorts. same_value-refl (v vs) (value vs t) (values_from_rule f g t p v one gives rule vs sorts)),
 )
 

@@ -1,5 +1,5 @@
 use Rattle.std.proofs.Common.{◌≡◌, ◌++◌, length, min, arith}
-use Rattle.pattern_core.specs.Pattern.{attr_values}
+use Rattle.pattern_core.specs.Rule.{attr_values}
 use Rattle.pattern_core.proofs.EvalLemmas.{attributes-more, attributes-all}
 use Rattle.pattern_core.proofs.meaning.add_attributes.Goals as goal
 

@@ -1,5 +1,5 @@
 use Rattle.std.proofs.Common.{◌≡◌, ◌++◌, drop}
-use Rattle.pattern_core.specs.Pattern.{attr_values}
+use Rattle.pattern_core.specs.Rule.{attr_values}
 use Rattle.pattern_core.proofs.meaning.add_attributes.Given as goal
 
 abbrev pub invariant-loop-place : goal.invariant-loop-place

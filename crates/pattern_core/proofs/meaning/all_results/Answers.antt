@@ -2,7 +2,7 @@ use Rattle.std.proofs.Common.{◌≡◌, ◌∙◌, map, Some, sym, ap, subst, s
 use Rattle.std.proofs.lemmas.Option.{slice_get-get_or}
 use Rattle.isel_spec.specs.Spec.{file}
 use Rattle.pattern_core.specs.declared.pattern.Node.{Node}
-use Rattle.pattern_core.specs.Pattern.{source_value, op_results}
+use Rattle.pattern_core.specs.Rule.{source_value, op_results}
 use Rattle.pattern_core.specs.Meaning.{IsNodeGiven}
 use Rattle.pattern_core.proofs.EvalLemmas.{IsNodeGiven-from, some_goal, IsGiven-start, IsGiven-more, IsGiven-end}
 use Rattle.pattern_core.proofs.meaning.all_results.Goals as goal

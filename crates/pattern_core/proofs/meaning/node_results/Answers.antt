@@ -3,7 +3,7 @@ use Rattle.bv_terms.specs.declared.op.TermId.{TermId}
 use Rattle.bv_terms.specs.declared.value.Value.{Value}
 use Rattle.bv_terms.specs.Term.{value}
 use Rattle.bv_terms.specs.Table.{term_at}
-use Rattle.pattern_core.specs.Pattern.{source_value}
+use Rattle.pattern_core.specs.Rule.{source_value}
 use Rattle.std.proofs.lemmas.Result.{IfOk-weaker}
 use Rattle.pattern_core.proofs.EvalLemmas.{node_values, CanEval-node}
 use Rattle.pattern_core.proofs.meaning.node_results.Goals as goal

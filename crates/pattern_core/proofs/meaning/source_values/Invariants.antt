@@ -1,5 +1,5 @@
 use Rattle.std.proofs.Common.{◌≡◌, map, take}
-use Rattle.pattern_core.specs.Pattern.{source_value}
+use Rattle.pattern_core.specs.Rule.{source_value}
 use Rattle.pattern_core.proofs.meaning.source_values.Given as goal
 
 abbrev pub invariant-loop-source : goal.invariant-loop-source

@@ -3,6 +3,7 @@ use Rattle.std.proofs.lemmas.Bool.{eqb-true, eq-eqb, false≢true}
 use Rattle.std.proofs.lemmas.List.{nil_from_length}
 use Rattle.std.proofs.lemmas.Result.{IfOk-weaker}
 use Rattle.isel_spec.specs.Spec.{file}
+use Rattle.pattern_core.proofs.ThingLemmas.{plain_rules}
 use Rattle.plain_search.proofs.LibraryLemmas.{IsTask-from_searchable, IsLibrary-from_inputs, IsLibrary-from_operations}
 use Rattle.plain_search.proofs.enumeration.search.Goals as goal
 use Rattle.plain_search.proofs.enumeration.search.Goals.{then-bound-eq0-via-then-bound-eq0}
@@ -14,7 +15,8 @@ returns-then-bound-eq0 c = λ g there.
     let rules = c.in_ok-rules.rules in
     let task =
     IsTask-from_searchable (file c.args.spec.now) c.args.goal g w c.requires.searchable there
-    (c.in_ok-wanted.ensures.wanted g there) in
+    (c.in_ok-wanted.ensures.wanted g there)
+    (plain_rules c.args.spec.now c.args.goal g c.len.ensures.table there) in
     IsLibrary-from_inputs (file c.args.spec.now) g w c.args.bound rules.items task c.in_ok-rules.ensures
     (elim c.then-bound-eq0.branch [
       | then-bound-eq0-via-then-bound-eq0 v ↦ inl v.if-bound-eq0.true
@@ -32,6 +34,7 @@ returns c =
     IfOk-weaker c.operation_rules.result _ _ (λ found is g there.
     let task =
     IsTask-from_searchable (file c.args.spec.now) c.args.goal g w c.requires.searchable there
-    (c.in_ok-wanted.ensures.wanted g there) in
+    (c.in_ok-wanted.ensures.wanted g there)
+    (plain_rules c.args.spec.now c.args.goal g c.len.ensures.table there) in
     IsLibrary-from_operations (file c.args.spec.now) g w c.args.bound found.items task c.requires.bound
     c.if-bound-eq0.false (sym c.in_ok-rules.ensures ∙ none) is) c.operation_rules.ensures
