@@ -3,9 +3,10 @@
 //!
 //! - `tests/grafts`: a term of one table made in another
 //! - `tests/lists`: faults and forests of small texts
-//! - `tests/operators`: values of each operator by the standard
+//! - `tests/operators`: values of operators that change the width
 //! - `tests/reading`: terms that are read, their faults, and terms that are written and read back
 //! - `tests/terms`: faults of `make`, and the nodes of subterms with their values
+//! - `tests/values`: values of each operator by the standard, at narrow and at wide bit-vectors
 //! - `tests/written`: operators of a term's text: over what they may stand, and their values
 #![tactic(auto)]
 

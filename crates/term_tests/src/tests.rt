@@ -5,4 +5,5 @@ mod lists;
 mod operators;
 mod reading;
 mod terms;
+mod values;
 mod written;

@@ -26,7 +26,7 @@ const INPUTS: [(&str, Sort); 6] = [
 ];
 
 /// The names of inputs, each with its node.
-fn inputs_in(
+pub(crate) fn inputs_in(
     alloc: Global,
     terms: &mut Terms,
     inputs: &[(&str, Sort)],
@@ -56,7 +56,7 @@ fn inputs_in(
 }
 
 /// What a text's first item is read as.
-fn read_first(
+pub(crate) fn read_first(
     alloc: Global,
     text: &[u8],
     names: &NameMap<TermId>,

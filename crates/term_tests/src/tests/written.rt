@@ -1,4 +1,4 @@
-//! Tests: what operators that are written out give at all pairs of three bits, and over which sorts they may stand.
+//! Tests: what operators of one argument give at all numbers of three bits, and over which sorts operators may stand.
 
 use crate::tests::operators::number_of;
 use crate::tests::terms::{env_of, value_of};
@@ -6,63 +6,6 @@ use bv_terms::*;
 use std::alloc::Global;
 use std::test::Fail;
 use term_text::*;
-
-/// For each operator its values at the pairs (0, 0), (0, 1), up to (7, 7) of three bits, a digit each; a truth value
-/// is 0 or 1.
-const PAIRS: [(Operator, &str); 13] = [
-    (
-        Operator::Inverted(Bitwise::BvAnd),
-        "7777777776767676775577557654765477773333767632327755331176543210",
-    ),
-    (
-        Operator::Inverted(Bitwise::BvOr),
-        "7654321066442200545410104444000032103210220022001010101000000000",
-    ),
-    (
-        Operator::Inverted(Bitwise::BvXor),
-        "7654321067452301547610324567012332107654230167451032547601234567",
-    ),
-    (
-        Operator::Exchanged(Order::BvUlt),
-        "0000000010000000110000001110000011110000111110001111110011111110",
-    ),
-    (
-        Operator::Exchanged(Order::BvUle),
-        "1000000011000000111000001111000011111000111111001111111011111111",
-    ),
-    (
-        Operator::Exchanged(Order::BvSlt),
-        "0000111110001111110011111110111100000000000010000000110000001110",
-    ),
-    (
-        Operator::Exchanged(Order::BvSle),
-        "1000111111001111111011111111111100001000000011000000111000001111",
-    ),
-    (
-        Operator::Signed(Division::Quotient),
-        "7000000071000007721000767311077514671124157701131670001217000001",
-    ),
-    (
-        Operator::Signed(Division::Remainder),
-        "0000000010111110200222003010301040070700507050706006660070777770",
-    ),
-    (
-        Operator::Signed(Division::Modulo),
-        "0000000010115670200267003010707040020700501050706001660070127770",
-    ),
-    (
-        Operator::BvComp,
-        "1000000001000000001000000001000000001000000001000000001000000001",
-    ),
-    (
-        Operator::Equal,
-        "1000000001000000001000000001000000001000000001000000001000000001",
-    ),
-    (
-        Operator::Distinct,
-        "0111111110111111110111111110111111110111111110111111110111111110",
-    ),
-];
 
 /// An operator over one argument of three bits, and its values at 0 to 7.
 const SINGLES: [(Operator, u8, &str); 6] = [
@@ -165,19 +108,6 @@ fn written_value(
     let at = write_out(&mut terms, operator, &args[..count.min(2)])?;
     let env = env_of(alloc, 3, numbers).ok()?;
     number_of(value_of(&terms, at, &env)?, width)
-}
-
-#[test]
-fn operators_of_two_arguments_have_their_values(rt: HostRuntime) -> Result<(), Fail> {
-    for (operator, digits) in PAIRS {
-        let width = if operator == Operator::BvComp { 1 } else { 3 };
-        for (pair, digit) in digits.as_bytes().iter().enumerate() {
-            let numbers = [pair as u64 / 8, pair as u64 % 8];
-            let number = u64::from(digit.wrapping_sub(b'0'));
-            assert!(rt; written_value(rt.alloc(), operator, 2, numbers, width) == Some(number));
-        }
-    }
-    Ok(())
 }
 
 #[test]
