@@ -1,22 +1,23 @@
--- From a library to an answer.
-use Rattle.std.proofs.Common.{◌≡◌, ℕ, ◌≤◌, List, [], ◌∷◌, length, Some, None, slice_get, ⊎_elim, arith, sym, ap, ◌∙◌}
-use Rattle.std.proofs.Common.{refl, subst}
-use Rattle.std.specs.Prelude.{All}
+-- From the libraries of goals to answers, and to their text.
+use Rattle.std.proofs.Common.{◌≡◌, ℕ, ◌+◌, ◌≤◌, List, [], ◌∷◌, ◌++◌, length, take, Some, None, slice_get, ⊎_elim, arith}
+use Rattle.std.proofs.Common.{sym, ap, ◌∙◌, refl, subst, All}
+use Rattle.std.proofs.lemmas.List.{take_all, take_more}
 use Rattle.std.proofs.lemmas.List.Elements.{All-contains_itself}
+use Rattle.std.proofs.lemmas.Option.{slice_get_within, get_or_from_slice_get}
 use Rattle.isel_spec.specs.File.{File, Goal}
 use Rattle.pattern_core.specs.declared.pattern.Pattern.{Pattern}
 use Rattle.pattern_core.specs.declared.pattern.GoalAnswer.{GoalAnswer}
 use Rattle.pattern_core.specs.declared.pattern.GoalAnswer.TheVariants as answer
+use Rattle.pattern_core.specs.Pattern.{Pairwise}
+use Rattle.pattern_core.specs.Library.{AreRules, IsLibrary, IsAnswer, IsRight}
 use Rattle.pattern_text.specs.Text.{library_text}
 use Rattle.isel_cmd.specs.Program.{IsLibraryText}
-use Rattle.pattern_core.specs.Library.{AreRules, IsLibrary, IsAnswer, IsRight}
+
+-- ---- one goal
 
 pub nothing_first : (rules : List Pattern) → None ≡ slice_get rules 0 → rules ≡ []
 nothing_first [] h = refl
 nothing_first (p ∷ ps) h = cc
-
-pub first_goal : (gs : List Goal) (g : Goal) → gs ≡ g ∷ [] → slice_get gs 0 ≡ Some g
-first_goal gs g e = ap (λ l. slice_get l 0) e
 
 are_right : (f : File) (g : Goal) (bound size : ℕ) (rules : List Pattern) → size ≤ bound → AreRules f g size rules
     → All (IsRight f g bound size) rules
@@ -62,14 +63,32 @@ answer_made f g bound size rules made first h l m s =
     let Q : List Pattern → Type 0 = λ ps. IsAnswer f g bound (answer.Complete (length first.nodes) ps) in
     subst P (sym s) (subst Q (sym m) (answer_of f g bound rules first h l).1)
 
--- the text of an answer for the only goal
-pub text_of : (f : File) (g : Goal) (bound : ℕ) (a : GoalAnswer) (answers : List GoalAnswer) (text : List ℕ)
-    → f.goals ≡ g ∷ []
-    → IsAnswer f g bound a → answers ≡ a ∷ [] → text ≡ library_text f answers → IsLibraryText f bound text
-text_of f g bound a answers text one right only written = record {
-  goal = g;
-  answer = a;
-  one_goal = one;
-  right = right;
-  written = written ∙ ap (library_text f) only;
-}
+-- ---- all goals
+
+pairwise-push : {A B : Type 0} (R : A → B → Type 0) (xs : List A) (ys : List B) (x : A) (y : B) → Pairwise R xs ys
+    → R x y → Pairwise R (xs ++ x ∷ []) (ys ++ y ∷ [])
+pairwise-push R [] [] x y h r = (r, tt)
+pairwise-push R (a ∷ as') (b ∷ bs) x y h r = (h.0, pairwise-push R as' bs x y h.1 r)
+pairwise-push R [] (b ∷ bs) x y h r = absurd h
+pairwise-push R (a ∷ as') [] x y h r = absurd h
+
+-- one more answer, for the goal in this place
+pub pairwise-more : {A B : Type 0} (R : A → B → Type 0) (xs : List A) (ys more : List B) (i : ℕ) (x : A) (y : B)
+    → slice_get xs i ≡ Some x → more ≡ ys ++ y ∷ [] → R x y → Pairwise R (take i xs) ys
+    → Pairwise R (take (i + 1) xs) more
+pairwise-more {A} R xs ys more i x y there grown r h =
+    let front : take (i + 1) xs ≡ take i xs ++ x ∷ [] =
+    take_more xs i x (slice_get_within xs i x there)
+    ∙ ap (λ (z : A). take i xs ++ z ∷ []) (get_or_from_slice_get xs i x x there) in
+    subst (Pairwise R (take (i + 1) xs)) (sym grown)
+    (subst (λ zs. Pairwise R zs (ys ++ y ∷ [])) (sym front) (pairwise-push R (take i xs) ys x y h r))
+
+pub pairwise-all : {A B : Type 0} (R : A → B → Type 0) (xs : List A) (ys : List B) (i : ℕ) → length xs ≤ i
+    → Pairwise R (take i xs) ys → Pairwise R xs ys
+pairwise-all R xs ys i l h = subst (λ zs. Pairwise R zs ys) (take_all i xs l) h
+
+-- the text of right answers for all goals
+pub text_of : (f : File) (bound : ℕ) (answers : List GoalAnswer) (text : List ℕ)
+    → Pairwise (λ (g : Goal) (a : GoalAnswer). IsAnswer f g bound a) f.goals answers → text ≡ library_text f answers
+    → IsLibraryText f bound text
+text_of f bound answers text right written = record { answers = answers; right = right; written = written }

@@ -1,6 +1,11 @@
 pub mod Compared
+pub mod TaskLemmas
+pub mod MemoryTests
+pub mod WideTests
+pub mod CauseLemmas
 pub mod AnswerLemmas
-pub mod RefusalLemmas
-pub mod FormLemmas
-pub mod SmallLemmas
+pub mod LineLemmas
+pub mod ReasonLemmas
+pub mod OutcomeLemmas
+pub mod NoteLemmas
 pub mod ExactLemmas

@@ -1,14 +1,11 @@
--- Which command the words are.
+-- The task that a command stands for.
 use Rattle.std.specs.Prelude.{ℕ, List}
-use Rattle.isel_cmd.specs.Words.{IsSynth}
+use Rattle.isel_cmd.specs.Words.{Task, Synth, IsTask}
 use Rattle.isel_cmd.specs.declared.words.Command.{Command}
-use Rattle.isel_cmd.specs.declared.words.Command.TheVariants.{Synth}
+use Rattle.isel_cmd.specs.declared.words.Command.TheVariants as command
+
+abbrev pub task_of : Command → Task
+task_of (command.Synth file bound) = Synth file.now bound
 
 abbrev pub IsCommand : List (List ℕ) → Command → Type 0
-IsCommand words (Synth file bound) = IsSynth words file.now bound
-
-abbrev pub file_of : Command → List ℕ
-file_of (Synth file bound) = file.now
-
-abbrev pub bound_of : Command → ℕ
-bound_of (Synth file bound) = bound
+IsCommand words command = IsTask words (task_of command)

@@ -1,4 +1,5 @@
 pub mod Words
 pub mod Command
-pub mod Program
+pub mod Refusal
 pub mod Status
+pub mod Program

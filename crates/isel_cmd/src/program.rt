@@ -1,131 +1,47 @@
 //! The call that does all that the program does, and the steps that it takes: read, search, write.
 //!
-//! Nothing is written to `out` before the work is done, and a refusal is told on `notes` alone.
+//! Nothing is written to `out` before the work is done, and a failure is told on `notes` alone.
 
-ghost use Rattle.std.specs.Prelude.{◌≡◌, ◌≢◌, ◌≤◌, ◌∷◌, ◌++◌, [], ℕ, List, Some, IfOk, IsErrOf, IsTrue, map, ◌⊎◌, ◌↔◌};
-ghost use Rattle.isel_spec.specs.File.{File, Goal};
-ghost use Rattle.isel_spec.specs.Spec.{file};
-ghost use Rattle.isel_spec.specs.Form.{IsFirstFile};
-ghost use Rattle.pattern_core.specs.Library.{IsAnswer};
+ghost use Rattle.std.specs.Prelude.{◌≡◌, ◌≢◌, ◌≤◌, ◌++◌, ℕ, List, Some, IsErrOf, IsTrue, map, ◌⊎◌, ◌↔◌, MatchResult};
 ghost use Rattle.std.specs.String.{string_bytes};
+ghost use Rattle.isel_spec.specs.File.{File};
 ghost use Rattle.isel_base.specs.Outside.{Rose, HasPrefix, ReadsOnly};
-ghost use Rattle.isel_cmd.specs.Words.{IsSynth, HasNoForm};
-ghost use Rattle.isel_cmd.specs.Status.{number_of, refused_status};
-ghost use Rattle.isel_cmd.specs.Program.{IsNoFile, IsLibraryText, IsLibraryOf, HasOneGoal, WritesLibrary};
-ghost use Rattle.isel_cmd.specs.Program.{WritesAtMostPart, CutsNote, IsToldNoFile, IsCommandStatus, with_text};
-ghost use Rattle.isel_cmd.specs.Program.{note_of};
+ghost use Rattle.isel_cmd.specs.declared.refusal.Reason.{Reason};
+ghost use Rattle.isel_cmd.specs.Words.{Task, IsTask, HasNoForm, Synth, file_of, bound_of};
+ghost use Rattle.isel_cmd.specs.Refusal.{IsReason, refusal_line};
+ghost use Rattle.isel_cmd.specs.Status.{number_of, failure_status, failure_line, memory_line};
+ghost use Rattle.isel_cmd.specs.Program.{IsAccepted, IsWork, IsRefused, IsCause, IsNote, IsSomeNote, Writes};
+ghost use Rattle.isel_cmd.specs.Program.{WritesAtMostPart, IsTaskStatus, with_text, no_form_line};
 
+use crate::accepted::accepted;
+use crate::library::library_of;
+use crate::refusal::{Failure, line_of, status_of};
 use crate::status::Status;
 use crate::words::parse;
-use collections::Seq;
-use isel_base::{Files, ReadAllFault, Sink, put_all, read_all};
-use isel_spec::{FirstFault, Spec, read_first};
-use pattern_core::GoalAnswer;
-use pattern_text::write_library;
-use plain_search::search;
+use isel_base::{Files, Sink, put_all};
 use std::alloc::{AllocError, Global};
-use std::slice;
-
-/// Why no library is written.
-#[derive(Clone, Copy)]
-enum Refusal {
-    /// The file is not of the form.
-    Outside,
-    /// The file could not be read.
-    ReadFault,
-    /// Want of memory.
-    NoMemory,
-}
-
-impl From<AllocError> for Refusal {
-    ghost use Rattle.isel_cmd.specs.declared.program.Refusal.TheVariants.{NoMemory};
-
-    ghost from_gives = { λ _ e. e ≡ NoMemory };
-
-    fn from(_e: AllocError) -> Refusal {
-        Refusal::NoMemory
-    }
-}
-
-/// The answer for the only goal of a file.
-fn answer(alloc: Global, spec: &Spec, bound: u8) -> Result<GoalAnswer, AllocError>
-    requires one_goal { HasOneGoal (file spec.now) }
-    requires within { bound ≤ 1 }
-    ensures { IfOk result (λ a. (g : Goal) → (file spec.now).goals ≡ g ∷ [] → IsAnswer (file spec.now) g bound a) }
-{
-    let rules = search(alloc, spec, 0, bound)?;
-    let Some(first) = rules.first() else {
-        return Ok(GoalAnswer::None);
-    };
-    let size = first.nodes.len() as u8;
-    Ok(GoalAnswer::Complete {
-        size,
-        rules: Seq::from_vec(rules),
-    })
-}
-
-/// The text of the library of a file.
-fn library_of(alloc: Global, spec: &Spec, bound: u8) -> Result<String, AllocError>
-    requires one_goal { HasOneGoal (file spec.now) }
-    requires within { bound ≤ 1 }
-    ensures { IfOk result (λ text. IsLibraryText (file spec.now) bound (string_bytes text)) }
-{
-    let answer = answer(alloc, spec, bound)?;
-    write_library(alloc, spec, slice::from_ref(&answer))
-}
-
-/// The file of that name, as far as it is of the form.
-fn spec_of<F: Files>(alloc: Global, files: &mut F, name: &str) -> Result<Spec, Refusal>
-    ensures read { (bytes : List ℕ) → F.bytes files.old name.now ≡ Some bytes →
-        IfOk result (λ spec. IsFirstFile bytes (file spec)) }
-    ensures one_goal { IfOk result (λ spec. HasOneGoal (file spec)) }
-    ensures outside { (bytes : List ℕ) → F.bytes files.old name.now ≡ Some bytes → IsErrOf result Refusal.Outside →
-        IsNoFile bytes }
-    ensures cause { IsErrOf result Refusal.ReadFault →
-        Rose (F.faults files.old name.now) (F.faults files.new name.now) }
-    ensures only { ReadsOnly F.read_leaves name.now files.old files.new }
-    ensures steady { IsTrue (F.never_fails files.old name.now) → ¬ IsErrOf result Refusal.ReadFault }
-    ensures counts { (other : List ℕ) → F.faults files.old other ≤ F.faults files.new other }
-    ensures same { (other : List ℕ) → F.bytes files.new other ≡ F.bytes files.old other }
-    ensures stays { (other : List ℕ) → IsTrue (F.never_fails files.old other) →
-        IsTrue (F.never_fails files.new other) }
-{
-    let bytes = match read_all(alloc, files, name) {
-        Ok(bytes) => bytes,
-        Err(ReadAllFault::ReadFault) => return Err(Refusal::ReadFault),
-        Err(ReadAllFault::TooLong) => return Err(Refusal::Outside),
-        Err(ReadAllFault::NoMemory) => return Err(Refusal::NoMemory),
-    };
-    match read_first(alloc, &bytes) {
-        Ok(spec) => Ok(spec),
-        Err(FirstFault::Outside) => Err(Refusal::Outside),
-        Err(FirstFault::NoMemory) => Err(Refusal::NoMemory),
-    }
-}
 
 /// The text of the library of the file of that name.
-fn library<F: Files>(alloc: Global, files: &mut F, name: &str, bound: u8) -> Result<String, Refusal>
-    requires { bound ≤ 1 }
-    ensures text { (bytes : List ℕ) → F.bytes files.old name.now ≡ Some bytes →
-        IfOk result (λ text. IsLibraryOf bytes bound (string_bytes text)) }
-    ensures outside { (bytes : List ℕ) → F.bytes files.old name.now ≡ Some bytes → IsErrOf result Refusal.Outside →
-        IsNoFile bytes }
-    ensures cause { IsErrOf result Refusal.ReadFault →
-        Rose (F.faults files.old name.now) (F.faults files.new name.now) }
+fn library<F: Files>(alloc: Global, files: &mut F, name: &str, bound: u8) -> Result<String, Failure>
+    requires { bound ≤ 6 }
+    ensures outcome { MatchResult result
+        (λ text. IsWork (F.bytes files.old) (Synth name.now bound) (string_bytes text))
+        (IsCause (F.bytes files.old) (λ other. Rose (F.faults files.old other) (F.faults files.new other))
+        (Synth name.now bound)) }
     ensures only { ReadsOnly F.read_leaves name.now files.old files.new }
-    ensures steady { IsTrue (F.never_fails files.old name.now) → ¬ IsErrOf result Refusal.ReadFault }
+    ensures steady { IsTrue (F.never_fails files.old name.now) → ¬ IsErrOf result Failure.ReadFault }
     ensures counts { (other : List ℕ) → F.faults files.old other ≤ F.faults files.new other }
     ensures same { (other : List ℕ) → F.bytes files.new other ≡ F.bytes files.old other }
     ensures stays { (other : List ℕ) → IsTrue (F.never_fails files.old other) →
         IsTrue (F.never_fails files.new other) }
 {
-    let spec = match spec_of(alloc, files, name) {
+    let spec = match accepted(alloc, files, name, bound) {
         Ok(spec) => spec,
-        Err(refusal) => return Err(refusal),
+        Err(failure) => return Err(failure),
     };
     match library_of(alloc, &spec, bound) {
         Ok(text) => Ok(text),
-        Err(AllocError) => Err(Refusal::NoMemory),
+        Err(AllocError) => Err(Failure::NoMemory),
     }
 }
 
@@ -144,41 +60,20 @@ fn tell<E: Sink>(notes: &mut E, text: &[u8], status: Status) -> Status
     }
 }
 
-/// The status of a refused run.
-fn status_of(refusal: Refusal) -> Status
-    ensures { number_of result ≡ refused_status refusal }
-{
-    match refusal {
-        Refusal::Outside => Status::Refused,
-        Refusal::ReadFault => Status::ReadFailed,
-        Refusal::NoMemory => Status::NoMemory,
-    }
-}
-
-/// The line of a refused run.
-fn line_of(alloc: Global, name: &str, refusal: Refusal) -> Result<String, AllocError>
-    ensures { IfOk result (λ line. string_bytes line ≡ note_of (refused_status refusal) name.now) }
-{
-    match refusal {
-        Refusal::Outside => format!(in alloc; "{name}: Outside\n"),
-        Refusal::ReadFault => format!(in alloc; "{name}: ReadFault\n"),
-        Refusal::NoMemory => String::from_str(alloc, "memory\n"),
-    }
-}
-
-/// Writes the line of a refusal to `notes`.
-fn refuse<E: Sink>(alloc: Global, notes: &mut E, name: &str, refusal: Refusal) -> Status
-    ensures status { (number_of result ≡ refused_status refusal) ⊎ (number_of result ≡ 5) ⊎ (number_of result ≡ 6) }
-    ensures told { number_of result ≢ 5 →
-        E.written notes.new ≡ with_text (note_of (number_of result) name.now) (E.written notes.old) }
+/// Writes the line of a failure to `notes`.
+fn refuse<E: Sink>(alloc: Global, notes: &mut E, name: &str, failure: Failure) -> Status
+    ensures status { (number_of result ≡ failure_status failure) ⊎ (number_of result ≡ 5) ⊎ (number_of result ≡ 6) }
+    ensures told { number_of result ≢ 5 → number_of result ≢ 6 →
+        E.written notes.new ≡ with_text (failure_line name.now failure) (E.written notes.old) }
+    ensures told_memory { number_of result ≡ 6 → E.written notes.new ≡ with_text memory_line (E.written notes.old) }
     ensures cut { number_of result ≡ 5 →
-        HasPrefix (E.written notes.old) (note_of (refused_status refusal) name.now) (E.written notes.new)
-        ⊎ HasPrefix (E.written notes.old) (note_of 6 name.now) (E.written notes.new) }
+        HasPrefix (E.written notes.old) (failure_line name.now failure) (E.written notes.new)
+        ⊎ HasPrefix (E.written notes.old) memory_line (E.written notes.new) }
     ensures count { E.faults notes.old ≤ E.faults notes.new }
     ensures cause { number_of result ≡ 5 → Rose (E.faults notes.old) (E.faults notes.new) }
 {
-    match line_of(alloc, name, refusal) {
-        Ok(line) => tell(notes, line.as_bytes(), status_of(refusal)),
+    match line_of(alloc, name, failure) {
+        Ok(line) => tell(notes, line.as_bytes(), status_of(failure)),
         Err(_) => tell(notes, b"memory\n", Status::NoMemory),
     }
 }
@@ -206,24 +101,21 @@ fn synth<F: Files, S: Sink, E: Sink>(
     name: &str,
     bound: u8,
 ) -> Status
-    requires { bound ≤ 1 }
-    ensures status { IsCommandStatus (number_of result) }
-    ensures headline { (bytes : List ℕ) → F.bytes files.old name.now ≡ Some bytes → number_of result ≡ 0 →
-        WritesLibrary bytes bound (S.written out.old) (S.written out.new) }
-    ensures refused { (bytes : List ℕ) → F.bytes files.old name.now ≡ Some bytes → number_of result ≡ 3 →
-        IsNoFile bytes }
-    ensures read_fault { number_of result ≡ 4 → Rose (F.faults files.old name.now) (F.faults files.new name.now) }
+    requires { bound ≤ 6 }
+    ensures status { IsTaskStatus (number_of result) }
+    ensures headline { number_of result ≡ 0 →
+        Writes (IsWork (F.bytes files.old) (Synth name.now bound)) (S.written out.old) (S.written out.new) }
+    ensures line { number_of result ≢ 5 → Writes (IsNote (F.bytes files.old)
+        (λ other. Rose (F.faults files.old other) (F.faults files.new other)) (Synth name.now bound)
+        (number_of result)) (E.written notes.old) (E.written notes.new) }
+    ensures cut { number_of result ≡ 5 →
+        WritesAtMostPart (IsWork (F.bytes files.old) (Synth name.now bound)) (S.written out.old)
+        (S.written out.new) }
+    ensures cut_line { number_of result ≡ 5 → WritesAtMostPart (IsSomeNote (F.bytes files.old)
+        (λ other. Rose (F.faults files.old other) (F.faults files.new other)) (Synth name.now bound))
+        (E.written notes.old) (E.written notes.new) }
     ensures write_fault { number_of result ≡ 5 → Rose (S.faults out.old) (S.faults out.new) ⊎
         Rose (E.faults notes.old) (E.faults notes.new) }
-    ensures line { number_of result ≢ 5 →
-        E.written notes.new ≡ with_text (note_of (number_of result) name.now) (E.written notes.old) }
-    ensures untouched { number_of result ≢ 0 → number_of result ≢ 5 → S.written out.new ≡ S.written out.old }
-    ensures cut { (bytes : List ℕ) → F.bytes files.old name.now ≡ Some bytes → number_of result ≡ 5 →
-        WritesAtMostPart bytes bound (S.written out.old) (S.written out.new) }
-    ensures cut_line { number_of result ≡ 5 → (E.written notes.new ≡ E.written notes.old) ⊎
-        CutsNote (IsToldNoFile (F.bytes files.old name.now))
-        (Rose (F.faults files.old name.now) (F.faults files.new name.now))
-        name.now (E.written notes.old) (E.written notes.new) }
     ensures one_fails { number_of result ≡ 5 →
         ((S.written out.new ≡ S.written out.old) × Rose (E.faults notes.old) (E.faults notes.new)) ⊎
         ((E.written notes.new ≡ E.written notes.old) × Rose (S.faults out.old) (S.faults out.new)) }
@@ -241,13 +133,12 @@ fn synth<F: Files, S: Sink, E: Sink>(
 {
     match library(alloc, files, name, bound) {
         Ok(text) => deliver(out, text.as_str()),
-        Err(refusal) => refuse(alloc, notes, name, refusal),
+        Err(failure) => refuse(alloc, notes, name, failure),
     }
 }
 
 /// The statuses, for readers of the contract: 0 the library was written; 2 the words have no form;
-/// 3 the file is not of the small form; 4 the file could not be read; 5 a write failed; 6 memory
-/// ran out.
+/// 3 the file is refused; 4 the file could not be read; 5 a write failed; 6 memory ran out.
 ///
 /// All that the program does: the words of the command line, without the program's name, are
 /// looked at, the named file is read from `files`, its library is written to `out`, and where that is
@@ -259,38 +150,52 @@ pub fn run_here<F: Files, S: Sink, E: Sink>(
     out: &mut S,
     notes: &mut E,
 ) -> u8
-    // The bytes of the named file are a file, and what this call appended to `out` is the text of an
-    // answer for its goal that is right on every input and complete for the bound.
-    ensures headline { (name bytes : List ℕ) (bound : ℕ) → IsSynth (map string_bytes words.now) name bound →
-        F.bytes files.old name ≡ Some bytes → result ≡ 0 →
-        WritesLibrary bytes bound (S.written out.old) (S.written out.new) }
+    // The bytes of the named file are a file that is not refused, and what this call appended to `out` is the text of
+    // an answer for each of its goals that is right on every input and complete for the bound.
+    ensures headline { (task : Task) → IsTask (map string_bytes words.now) task → result ≡ 0 →
+        Writes (IsWork (F.bytes files.old) task) (S.written out.old) (S.written out.new) }
 
     // Status 2 comes exactly where the words have no form, unless the line could not be written.
     ensures no_form { result ≡ 2 → HasNoForm (map string_bytes words.now) }
     ensures no_form_only { HasNoForm (map string_bytes words.now) → (result ≡ 2) ⊎ (result ≡ 5) }
-    ensures form { (name : List ℕ) (bound : ℕ) → IsSynth (map string_bytes words.now) name bound →
-        IsCommandStatus result }
+    ensures form { (task : Task) → IsTask (map string_bytes words.now) task → IsTaskStatus result }
 
     // It comes exactly where they have none and the line was written, where `notes` tells its bytes.
     ensures no_form_exact { (before : List ℕ) → E.written notes.old ≡ Some before →
         ((result ≡ 2) ↔ (HasNoForm (map string_bytes words.now)
-        × (E.written notes.new ≡ Some (before ++ note_of 2 [])))) }
+        × (E.written notes.new ≡ Some (before ++ no_form_line)))) }
 
-    // Status 3 comes exactly where the bytes are no file of the form, unless a read or a write failed or
-    // memory ran out.
-    ensures refused { (name bytes : List ℕ) (bound : ℕ) → IsSynth (map string_bytes words.now) name bound →
-        F.bytes files.old name ≡ Some bytes → result ≡ 3 → IsNoFile bytes }
-    ensures refused_only { (name bytes : List ℕ) (bound : ℕ) → IsSynth (map string_bytes words.now) name bound →
-        F.bytes files.old name ≡ Some bytes → IsNoFile bytes → result ≢ 0 }
+    // What is written to `notes`: nothing with status 0, else the line of the status, whose cause holds: the bytes are
+    // refused for the reason that it says, or reading them failed. With status 5 a part of a line whose cause holds, or
+    // nothing.
+    ensures line { (task : Task) → IsTask (map string_bytes words.now) task → result ≢ 5 →
+        Writes (IsNote (F.bytes files.old) (λ other. Rose (F.faults files.old other) (F.faults files.new other)) task
+        result) (E.written notes.old) (E.written notes.new) }
+    ensures no_form_line { result ≡ 2 → E.written notes.new ≡ with_text no_form_line (E.written notes.old) }
+    ensures cut_line { (task : Task) → IsTask (map string_bytes words.now) task → result ≡ 5 →
+        WritesAtMostPart (IsSomeNote (F.bytes files.old)
+        (λ other. Rose (F.faults files.old other) (F.faults files.new other)) task)
+        (E.written notes.old) (E.written notes.new) }
+    ensures cut_no_form_line { HasNoForm (map string_bytes words.now) → result ≡ 5 →
+        HasPrefix (E.written notes.old) no_form_line (E.written notes.new) }
 
-    // It comes exactly where they are none and the line was written, where `notes` tells its bytes.
-    ensures refused_exact { (name bytes before : List ℕ) (bound : ℕ) → IsSynth (map string_bytes words.now) name bound →
-        F.bytes files.old name ≡ Some bytes → E.written notes.old ≡ Some before →
-        ((result ≡ 3) ↔ (IsNoFile bytes × (E.written notes.new ≡ Some (before ++ note_of 3 name)))) }
+    // A file that is refused has no library. Its bytes have one reason, and so its line is theirs.
+    ensures refused_only { (task : Task) (bytes : List ℕ) (reason : Reason) →
+        IsTask (map string_bytes words.now) task → F.bytes files.old (file_of task) ≡ Some bytes →
+        IsReason bytes (bound_of task) reason → result ≢ 0 }
+    ensures refused_line { (task : Task) (bytes : List ℕ) (reason : Reason) →
+        IsTask (map string_bytes words.now) task → F.bytes files.old (file_of task) ≡ Some bytes →
+        IsReason bytes (bound_of task) reason → result ≡ 3 →
+        E.written notes.new ≡ with_text (refusal_line (file_of task) reason) (E.written notes.old) }
 
-    // A fault of reading or writing comes only where the count of its object rose in this call.
-    ensures read_fault { (name : List ℕ) (bound : ℕ) → IsSynth (map string_bytes words.now) name bound →
-        result ≡ 4 → Rose (F.faults files.old name) (F.faults files.new name) }
+    // Status 3 comes exactly where the line of a refused file was written, and so where it is refused, where `notes`
+    // tells its bytes.
+    ensures refused_exact { (task : Task) (before : List ℕ) → IsTask (map string_bytes words.now) task →
+        E.written notes.old ≡ Some before →
+        ((result ≡ 3) ↔ ((text : List ℕ) × IsRefused (F.bytes files.old) task text
+        × (E.written notes.new ≡ Some (before ++ text)))) }
+
+    // A write fails only where the count of its object rose in this call.
     ensures write_fault { result ≡ 5 → Rose (S.faults out.old) (S.faults out.new) ⊎
         Rose (E.faults notes.old) (E.faults notes.new) }
 
@@ -299,28 +204,15 @@ pub fn run_here<F: Files, S: Sink, E: Sink>(
         ((S.written out.new ≡ S.written out.old) × Rose (E.faults notes.old) (E.faults notes.new)) ⊎
         ((E.written notes.new ≡ E.written notes.old) × Rose (S.faults out.old) (S.faults out.new)) }
 
-    // What is written to `notes`: nothing with status 0, else the line of the status; with status 5 a
-    // part of a line whose cause holds, or nothing.
-    ensures no_form_line { result ≡ 2 → E.written notes.new ≡ with_text (note_of 2 []) (E.written notes.old) }
-    ensures line { (name : List ℕ) (bound : ℕ) → IsSynth (map string_bytes words.now) name bound → result ≢ 5 →
-        E.written notes.new ≡ with_text (note_of result name) (E.written notes.old) }
-    ensures cut_no_form_line { HasNoForm (map string_bytes words.now) → result ≡ 5 →
-        HasPrefix (E.written notes.old) (note_of 2 []) (E.written notes.new) }
-    ensures cut_line { (name : List ℕ) (bound : ℕ) → IsSynth (map string_bytes words.now) name bound → result ≡ 5 →
-        (E.written notes.new ≡ E.written notes.old) ⊎
-        CutsNote (IsToldNoFile (F.bytes files.old name)) (Rose (F.faults files.old name) (F.faults files.new name))
-        name (E.written notes.old) (E.written notes.new) }
-
     // Nothing is written to `out` before the work is done, and a part of the text where a write fails.
     ensures untouched { result ≢ 0 → result ≢ 5 → S.written out.new ≡ S.written out.old }
     ensures no_form_untouched { HasNoForm (map string_bytes words.now) → S.written out.new ≡ S.written out.old }
-    ensures cut { (name bytes : List ℕ) (bound : ℕ) → IsSynth (map string_bytes words.now) name bound →
-        F.bytes files.old name ≡ Some bytes → result ≡ 5 →
-        WritesAtMostPart bytes bound (S.written out.old) (S.written out.new) }
+    ensures cut { (task : Task) → IsTask (map string_bytes words.now) task → result ≡ 5 →
+        WritesAtMostPart (IsWork (F.bytes files.old) task) (S.written out.old) (S.written out.new) }
 
     // No file but the named one is read. What the source tells stays, and counts never fall.
-    ensures reads_only { (name : List ℕ) (bound : ℕ) → IsSynth (map string_bytes words.now) name bound →
-        ReadsOnly F.read_leaves name files.old files.new }
+    ensures reads_only { (task : Task) → IsTask (map string_bytes words.now) task →
+        ReadsOnly F.read_leaves (file_of task) files.old files.new }
     ensures files_count { (other : List ℕ) → F.faults files.old other ≤ F.faults files.new other }
     ensures files_same { (other : List ℕ) → F.bytes files.new other ≡ F.bytes files.old other }
     ensures files_stay { (other : List ℕ) → IsTrue (F.never_fails files.old other) →
@@ -328,14 +220,15 @@ pub fn run_here<F: Files, S: Sink, E: Sink>(
     ensures out_count { S.faults out.old ≤ S.faults out.new }
     ensures notes_count { E.faults notes.old ≤ E.faults notes.new }
 
-    // Where the bytes are a file and no count rose, the work is done, unless memory ran out. A name that
-    // never fails is read.
-    ensures complete { (name bytes : List ℕ) (bound : ℕ) (f : File) → IsSynth (map string_bytes words.now) name bound →
-        F.bytes files.old name ≡ Some bytes → IsFirstFile bytes f →
-        ¬ Rose (F.faults files.old name) (F.faults files.new name) → ¬ Rose (S.faults out.old) (S.faults out.new) →
-        ¬ Rose (E.faults notes.old) (E.faults notes.new) → (result ≡ 0) ⊎ (result ≡ 6) }
-    ensures steady { (name : List ℕ) (bound : ℕ) → IsSynth (map string_bytes words.now) name bound →
-        IsTrue (F.never_fails files.old name) → result ≢ 4 }
+    // Where the bytes are a file that is not refused and no count rose, the work is done, unless memory ran out. A name
+    // that never fails is read.
+    ensures complete { (task : Task) (bytes : List ℕ) (f : File) → IsTask (map string_bytes words.now) task →
+        F.bytes files.old (file_of task) ≡ Some bytes → IsAccepted bytes (bound_of task) f →
+        ¬ Rose (F.faults files.old (file_of task)) (F.faults files.new (file_of task)) →
+        ¬ Rose (S.faults out.old) (S.faults out.new) → ¬ Rose (E.faults notes.old) (E.faults notes.new) →
+        (result ≡ 0) ⊎ (result ≡ 6) }
+    ensures steady { (task : Task) → IsTask (map string_bytes words.now) task →
+        IsTrue (F.never_fails files.old (file_of task)) → result ≢ 4 }
 
     // What is not to be used is left as it was, also where it tells nothing.
     ensures out_left { result ≢ 0 → result ≢ 5 → out.new ≡ out.old }

@@ -4,8 +4,8 @@
 ghost use Rattle.std.specs.Prelude.{◌≡◌, ℕ, List, map, MatchOption, IfSome, IfNone, IsTrue, ◌↔◌, ◌≤◌};
 ghost use Rattle.std.specs.String.{string_bytes};
 ghost use Rattle.std.specs.Fmt.{decimal};
-ghost use Rattle.isel_cmd.specs.Words.{IsFileName, IsSynth, HasNoForm};
-ghost use Rattle.isel_cmd.specs.Command.{IsCommand, file_of, bound_of};
+ghost use Rattle.isel_cmd.specs.Words.{IsFileName, HasNoForm, file_of, bound_of};
+ghost use Rattle.isel_cmd.specs.Command.{IsCommand, task_of};
 
 /// What the words ask for.
 #[derive(Clone, Copy, Debug)]
@@ -17,7 +17,7 @@ pub enum Command<'a> {
 impl<'a> Command<'a> {
     /// The name of the file that the command reads.
     pub fn file(self) -> &'a str
-        ensures { result.now ≡ file_of self.entry }
+        ensures { result.now ≡ file_of (task_of self.entry) }
     {
         let Command::Synth { file, .. } = self;
         file
@@ -25,7 +25,7 @@ impl<'a> Command<'a> {
 
     /// How many operations a pattern may have.
     pub fn bound(self) -> u8
-        ensures { result ≡ bound_of self.entry }
+        ensures { result ≡ bound_of (task_of self.entry) }
     {
         let Command::Synth { bound, .. } = self;
         bound
@@ -44,12 +44,14 @@ fn is_file_name(word: &str) -> bool
 
 /// The bound that a word says.
 fn bound_of(word: &str) -> Option<u8>
-    ensures some { IfSome result (λ bound. (word.now ≡ decimal bound) × (bound ≤ 1)) }
-    ensures none { IfNone result ((bound : ℕ) → bound ≤ 1 → word.now ≡ decimal bound → ⊥) }
+    ensures some { IfSome result (λ bound. (word.now ≡ decimal bound) × (bound ≤ 3)) }
+    ensures none { IfNone result ((bound : ℕ) → bound ≤ 3 → word.now ≡ decimal bound → ⊥) }
 {
     match word {
         "0" => Some(0),
         "1" => Some(1),
+        "2" => Some(2),
+        "3" => Some(3),
         _ => None,
     }
 }
@@ -71,6 +73,8 @@ pub fn parse(words: &[String]) -> Option<Command<'_>>
     if !is_file_name(file) {
         return None;
     }
-    let bound = bound_of(number.as_str())?;
+    let Some(bound) = bound_of(number.as_str()) else {
+        return None;
+    };
     Some(Command::Synth { file, bound })
 }

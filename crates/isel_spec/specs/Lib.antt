@@ -1,10 +1,3 @@
 pub mod File
 pub mod Spec
-pub mod Text
-pub mod Form
-pub mod Items
-pub mod Reading
-pub mod Fault
-pub mod Nodes
-pub mod Tables
 pub mod Memory

@@ -10,3 +10,4 @@ pub mod OrderOfWalk
 pub mod RenamingLemmas
 pub mod FormLemmas
 pub mod ForwardLemmas
+pub mod EvaluationLemmas

@@ -61,7 +61,8 @@ here : (y : ℕ) (ys : List ℕ) (x : ℕ) → x ≡ y → place_of (y ∷ ys) x
 here y ys x e = ap (λ b. cond b zero (suc (place_of ys x))) (eq-eqb x y e)
 
 later : (y : ℕ) (ys : List ℕ) (x : ℕ) → (x ≡ y → ⊥) → place_of (y ∷ ys) x ≡ suc (place_of ys x)
-later y ys x differs = ap (λ b. cond b zero (suc (place_of ys x))) (false_unless (x == y) (λ t. differs (eqb-true x y t)))
+later y ys x differs =
+    ap (λ b. cond b zero (suc (place_of ys x))) (false_unless (x == y) (λ t. differs (eqb-true x y t)))
 
 there-cons : (y : ℕ) (ys : List ℕ) (x : ℕ) → In (y ∷ ys) x → (In ys x → slice_get ys (place_of ys x) ≡ Some x)
     → (x ≡ y) ⊎ (x ≡ y → ⊥) → slice_get (y ∷ ys) (place_of (y ∷ ys) x) ≡ Some x

@@ -55,7 +55,8 @@ unwrapped None m e = absurd (cc)
 unwrapped (Some n) m e = same_Some (Some n) (Some m) e
 
 pub placed-node : (p : Pattern) (order : List ℕ) (q : Pattern) → IsOrder p order → IsPlaced p order q
-    → (k : ℕ) (n : Node) → slice_get p.nodes k ≡ Some n → slice_get q.nodes (place_of order k) ≡ Some (renamed_node (place_of order) n)
+    → (k : ℕ) (n : Node) → slice_get p.nodes k ≡ Some n
+    → slice_get q.nodes (place_of order k) ≡ Some (renamed_node (place_of order) n)
 placed-node p order q o h k n e =
     let F : ℕ → Option Node = λ j. option_map (renamed_node (place_of order)) (slice_get p.nodes j) in
     let i : ℕ = place_of order k in

@@ -5,3 +5,4 @@ pub mod Order
 pub mod Library
 pub mod Meaning
 pub mod Renaming
+pub mod Evaluation

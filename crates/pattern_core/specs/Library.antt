@@ -42,8 +42,10 @@ pub record IsRight (f : File) (g : Goal) (bound size : ℕ) (p : Pattern) : Type
   pub rule : IsRule f g p
 
 -- right on every input, with none missing: all the patterns of the least size that has one, or there are none within
--- the bound
+-- the bound; an answer that leaves something undecided is none of these
 abbrev pub IsAnswer : File → Goal → ℕ → GoalAnswer → Type 0
 IsAnswer f g bound (answer.Complete size rules) =
     (rules ≢ []) × All (IsRight f g bound size) rules × IsLibrary f g bound rules
+IsAnswer f g bound (answer.Partial size rules undecided) = ⊥
 IsAnswer f g bound answer.None = IsLibrary f g bound []
+IsAnswer f g bound (answer.Stopped undecided) = ⊥

@@ -1,4 +1,5 @@
--- Renamings of a pattern: its nodes under other numbers, in the order of these, with the sources that name them renamed.
+-- Renamings of a pattern: its nodes under other numbers, in the order of these, with the sources that name them
+-- renamed.
 use Rattle.std.specs.Prelude.{◌≡◌, ℕ, zero, suc, ◌<◌, List, [], ◌∷◌, length, map, Some, slice_get, ◌==◌, if◌then◌else◌}
 use Rattle.pattern_core.specs.declared.pattern.Src.{Src}
 use Rattle.pattern_core.specs.declared.pattern.Src.TheVariants.{Input, Out}

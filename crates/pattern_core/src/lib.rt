@@ -7,6 +7,7 @@
 //! - `renaming`: `canonical`, the one renaming of a pattern of which that is so.
 //! - `meaning`: `eval` and `eval_goal`, the values that patterns and goals give, and `rules_are_plain`: where
 //!   there is no memory, a rule is one over values.
+//! - `evaluation`: `Evaluation`, what the values of many patterns of a file need, found once; and `goal_nodes`.
 //! - `comparison`: `order`, the order of patterns, and `order_is_total`, its law.
 //!
 //! Patterns as programs over components: Gulwani, Jha, Tiwari, Venkatesan, PLDI 2011; rules, and the
@@ -14,6 +15,7 @@
 #![tactic(auto)]
 
 mod comparison;
+mod evaluation;
 mod meaning;
 mod pattern;
 mod renaming;
@@ -21,6 +23,7 @@ mod walk;
 mod well_formed;
 
 pub use comparison::{order, order_is_total};
+pub use evaluation::{Evaluation, goal_nodes};
 pub use meaning::{eval, eval_goal, rules_are_plain};
 pub use pattern::{GoalAnswer, Node, Pattern, Src};
 pub use renaming::canonical;

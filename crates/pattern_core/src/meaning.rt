@@ -36,10 +36,14 @@ fn value_at(values: &[Value], place: usize) -> Value
 }
 
 /// What stands in the places of nodes, in order.
-fn values_at(alloc: Global, nodes: &[TermId], room: &[Value]) -> Result<Vec<Value>, AllocError>
+pub(crate) fn values_at(
+    alloc: Global,
+    nodes: &[TermId],
+    room: &[Value],
+) -> Result<Vec<Value>, AllocError>
     ensures { IfOk result (λ v. v.items ≡ values_in room.now nodes.now) }
 {
-    let mut values = Vec::new(alloc);
+    let mut values = Vec::with_capacity(alloc, nodes.len())?;
     for at in nodes {
         values.push(value_at(room, at.0))?;
     }
@@ -107,7 +111,7 @@ fn source_value(inputs: &[Value], outs: &[Seq<Value>], source: Src) -> Value
 }
 
 /// The values of sources, in order.
-fn source_values(
+pub(crate) fn source_values(
     alloc: Global,
     inputs: &[Value],
     outs: &[Seq<Value>],
@@ -115,7 +119,7 @@ fn source_values(
 ) -> Result<Vec<Value>, AllocError>
     ensures { IfOk result (λ v. v.items ≡ map (source_value inputs.now outs.now) sources.now) }
 {
-    let mut values = Vec::new(alloc);
+    let mut values = Vec::with_capacity(alloc, sources.len())?;
     for source in sources {
         values.push(source_value(inputs, outs, *source))?;
     }
@@ -136,7 +140,7 @@ fn add_attributes(values: &mut Vec<Value>, widths: &[u8], numbers: &[u64]) -> Re
 }
 
 /// What the inputs of an operation's results are at a node: its arguments, and then its attributes.
-fn node_inputs(
+pub(crate) fn node_inputs(
     alloc: Global,
     operation: &OpDef,
     node: &Node,

@@ -2,6 +2,7 @@
 //! is a test of its own.
 
 use collections::Seq;
+use multiset_rank::Multi;
 
 /// Where an argument of a node or a result of a pattern comes from: an input of the goal, or a
 /// result of a node. All are counted from 0.
@@ -26,10 +27,24 @@ pub struct Pattern {
     pub results: Seq<Src>,
 }
 
-/// What a library says of a goal: all its patterns of the least size that has one, or that none of
-/// the sizes within the bound has one.
+/// What a library says of a goal.
 #[derive(Debug, Drop)]
 pub enum GoalAnswer {
-    Complete { size: u8, rules: Seq<Pattern> },
+    /// All patterns of the least size that has one.
+    Complete {
+        size: u8,
+        rules: Seq<Pattern>,
+    },
+    /// Patterns that were found, and the multisets of operations that are undecided.
+    Partial {
+        size: u8,
+        rules: Seq<Pattern>,
+        undecided: Seq<Multi>,
+    },
+    /// No size within the bound has a pattern.
     None,
+    /// None was found, and these multisets of operations are undecided.
+    Stopped {
+        undecided: Seq<Multi>,
+    },
 }

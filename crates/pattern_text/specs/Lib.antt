@@ -1,1 +1,11 @@
 pub mod Text
+pub mod Form
+pub mod Items
+pub mod Steps
+pub mod Rules
+pub mod Reading
+pub mod Outcome
+pub mod Small
+pub mod Outcomes
+pub mod RoundTrip
+pub mod Index

@@ -47,12 +47,21 @@ rule_text f p =
     line (codes " (rule (" ++ joined (map (node_text f) p.nodes) ++ codes ") ("
     ++ joined (map source_text p.results) ++ codes "))")
 
+-- (open (OP ..))
+abbrev pub open_text : File → List ℕ → List ℕ
+open_text f multi = line (codes " (open (" ++ joined (map (λ op. op_name (slice_get f.ops op)) multi) ++ codes "))")
+
 -- the answer for the goal of that name
 abbrev pub answer_text : File → List ℕ → GoalAnswer → List ℕ
 answer_text f name (answer.Complete size rules) =
     line (codes "(goal " ++ name ++ codes " complete " ++ decimal size) ++ flat_map (rule_text f) rules
     ++ line (codes ")")
+answer_text f name (answer.Partial size rules undecided) =
+    line (codes "(goal " ++ name ++ codes " partial " ++ decimal size) ++ flat_map (rule_text f) rules
+    ++ flat_map (open_text f) undecided ++ line (codes ")")
 answer_text f name answer.None = line (codes "(goal " ++ name ++ codes " none)")
+answer_text f name (answer.Stopped undecided) =
+    line (codes "(goal " ++ name ++ codes " stopped") ++ flat_map (open_text f) undecided ++ line (codes ")")
 
 -- the answer for a goal; past the last one, where there is none, nothing
 abbrev pub goal_text : File → Option Goal → GoalAnswer → List ℕ

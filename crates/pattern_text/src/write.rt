@@ -5,11 +5,12 @@ ghost use Rattle.std.specs.Prelude.{◌≡◌, ◌++◌, IfOk, OnOk, map, codes,
 ghost use Rattle.std.specs.List.{flat_map};
 ghost use Rattle.std.specs.String.{string_bytes};
 ghost use Rattle.std.specs.Fmt.{decimal};
-ghost use Rattle.pattern_text.specs.Text.{gap, joined, op_name, source_text, node_text, rule_text, answer_text};
-ghost use Rattle.pattern_text.specs.Text.{goal_text, library_text};
+ghost use Rattle.pattern_text.specs.Text.{gap, joined, op_name, source_text, node_text, rule_text, open_text};
+ghost use Rattle.pattern_text.specs.Text.{answer_text, goal_text, library_text};
 ghost use Rattle.isel_spec.specs.Spec.{file};
 
 use isel_spec::Spec;
+use multiset_rank::Multi;
 use pattern_core::{GoalAnswer, Node, Pattern, Src};
 use std::alloc::{AllocError, Global};
 
@@ -123,6 +124,38 @@ fn push_rules(out: &mut String, spec: &Spec, rules: &[Pattern]) -> Result<(), Al
     Ok(())
 }
 
+/// Adds the names of operations with single spaces between.
+fn push_op_names(out: &mut String, spec: &Spec, ops: &[u16]) -> Result<(), AllocError>
+    ensures { OnOk result (string_bytes out.new ≡ string_bytes out.old
+        ++ joined (map (λ op. op_name (slice_get (file spec.now).ops op)) ops.now)) }
+{
+    for (place, op) in ops.iter().enumerate() {
+        push_gap(out, place)?;
+        push_op_name(out, spec, *op)?;
+    }
+    Ok(())
+}
+
+/// Adds the line `(open (OP ..))`.
+fn push_open(out: &mut String, spec: &Spec, multi: &Multi) -> Result<(), AllocError>
+    ensures { OnOk result (string_bytes out.new ≡ string_bytes out.old ++ open_text (file spec.now) multi.now) }
+{
+    out.push_str(" (open (")?;
+    push_op_names(out, spec, multi.ops())?;
+    out.push_str("))\n")
+}
+
+/// Adds a line for each open claim.
+fn push_opens(out: &mut String, spec: &Spec, multis: &[Multi]) -> Result<(), AllocError>
+    ensures { OnOk result (string_bytes out.new ≡ string_bytes out.old
+        ++ flat_map (open_text (file spec.now)) multis.now) }
+{
+    for multi in multis {
+        push_open(out, spec, multi)?;
+    }
+    Ok(())
+}
+
 /// Adds the answer for the goal of that name.
 fn push_answer(
     out: &mut String,
@@ -139,7 +172,22 @@ fn push_answer(
             push_rules(out, spec, rules.as_slice())?;
             out.push_str(")\n")
         }
+        GoalAnswer::Partial {
+            size,
+            rules,
+            undecided,
+        } => {
+            writeln!(out, "(goal {name} partial {size}")?;
+            push_rules(out, spec, rules.as_slice())?;
+            push_opens(out, spec, undecided.as_slice())?;
+            out.push_str(")\n")
+        }
         GoalAnswer::None => writeln!(out, "(goal {name} none)"),
+        GoalAnswer::Stopped { undecided } => {
+            writeln!(out, "(goal {name} stopped")?;
+            push_opens(out, spec, undecided.as_slice())?;
+            out.push_str(")\n")
+        }
     }
 }
 

@@ -1,7 +1,7 @@
 -- What the tests of memory and of bits say of a goal and of the operations of a file.
 use Rattle.std.proofs.Common.{◌≡◌, ℕ, ◌+◌, ◌*◌, ◌<◌, ◌≤◌, true, false, List, length, drop, replicate, Some}
 use Rattle.std.proofs.Common.{◌↔◌, Contains, refl, sym, ap, subst, ◌∙◌, arith, slice_get, get_or, sum, sum_by}
-use Rattle.std.specs.Prelude.{nat_le, IsTrue}
+use Rattle.std.specs.Prelude.{Bool, nat_le, IsTrue}
 use Rattle.std.specs.Option.{option_map_or}
 use Rattle.std.specs.List.{list_all}
 use Rattle.std.proofs.lemmas.Bool.{false≢true, leb-true, le-leb}
@@ -21,6 +21,7 @@ use Rattle.isel_spec.specs.Spec.{file}
 use Rattle.isel_spec.proofs.SpecLemmas.{operation_is, goal_is}
 use Rattle.pattern_core.specs.Rule.{HasNoMemory}
 use Rattle.plain_search.specs.Extent.{is_value, takes_values, attribute_bits_of, attribute_bits, CanSearch}
+use Rattle.list_lemmas.proofs.Bools.{not_by_test}
 use Rattle.list_lemmas.proofs.Lookups.{list_all_goes_on, list_all_stops}
 use Rattle.list_lemmas.proofs.Members.{In, In-from_Contains, Contains-from_In, list_all_in, list_all_from_in}
 
@@ -104,27 +105,33 @@ bits_reached f most bound m h =
 pub refused : {P : Type 0} → (P → ⊥) → IsTrue false ↔ P
 refused never = (λ h. absurd (false≢true h), λ p. absurd (never p))
 
-pub no_search-memory : (f : File) (g : Goal) (bound : ℕ) → list_all is_value g.args ≡ false → CanSearch f g bound → ⊥
-no_search-memory f g bound h can = false≢true (sym h ∙ values_from g.args can.no_memory.args)
+pub memory-from_args : (f : File) (g : Goal) → list_all is_value g.args ≡ false → HasNoMemory f g → ⊥
+memory-from_args f g h none = false≢true (sym h ∙ values_from g.args none.args)
 
-pub no_search-operations : (f : File) (g : Goal) (bound : ℕ) → list_all takes_values f.ops ≡ false
+pub memory_decided : (f : File) (g : Goal) (b : Bool) → list_all is_value g.args ≡ true
+    → b ≡ list_all takes_values f.ops → IsTrue b ↔ HasNoMemory f g
+memory_decided f g b values e = (
+  λ h. record {
+    ops =
+        λ o c. no_memory_among o.args
+        (list_all_in takes_values f.ops o (sym e ∙ h) (In-from_Contains f.ops o c));
+    args = no_memory_among g.args values;
+  },
+  λ none. e ∙ operations_from f g none,
+)
+
+pub no_search-memory : (f : File) (g : Goal) (bound : ℕ) (b : Bool) → b ≡ false → IsTrue b ↔ HasNoMemory f g
     → CanSearch f g bound → ⊥
-no_search-operations f g bound h can = false≢true (sym h ∙ operations_from f g can.no_memory)
+no_search-memory f g bound b e h can = not_by_test b e h can.no_memory
 
 pub no_search-bits : (f : File) (g : Goal) (bound : ℕ) → 12 < sum_by width_of g.args → CanSearch f g bound → ⊥
 no_search-bits f g bound h can = let few = can.inputs in omega (arith, h, few)
 
-pub search_decided : (f : File) (g : Goal) (bound most : ℕ) → list_all is_value g.args ≡ true
-    → list_all takes_values f.ops ≡ true → sum_by width_of g.args ≤ 12 → IsMost f most
-    → IsTrue (nat_le (bound * most) 12) ↔ CanSearch f g bound
-search_decided f g bound most values operations few m = (
+pub search_decided : (f : File) (g : Goal) (bound most : ℕ) → HasNoMemory f g → sum_by width_of g.args ≤ 12
+    → IsMost f most → IsTrue (nat_le (bound * most) 12) ↔ CanSearch f g bound
+search_decided f g bound most none few m = (
   λ h. record {
-    no_memory = record {
-      ops =
-          λ o c. no_memory_among o.args
-          (list_all_in takes_values f.ops o operations (In-from_Contains f.ops o c));
-      args = no_memory_among g.args values;
-    };
+    no_memory = none;
     inputs = few;
     attributes = λ ops size.
         let within = bits_within f most bound ops m size in

@@ -1,14 +1,5 @@
 pub mod ListLemmas
-pub mod ReadLemmas
 pub mod InputLemmas
-pub mod TupleLemmas
-pub mod PatternLemmas
-pub mod MemoryLemmas
-pub mod RuleLemmas
-pub mod LibraryLemmas
-pub mod SoundLemmas
-pub mod TriedLemmas
-pub mod ResultLemmas
 pub mod ExtentLemmas
 pub mod TrialLemmas
 pub mod OrderingLemmas
@@ -19,3 +10,10 @@ pub mod FollowLemmas
 pub mod GrownLemmas
 pub mod KeptLemmas
 pub mod CandidateLemmas
+pub mod RangeLemmas
+pub mod SourceLemmas
+pub mod AgreementLemmas
+pub mod SiftLemmas
+pub mod SieveLemmas
+pub mod RenamedLemmas
+pub mod SizeLemmas

@@ -3,9 +3,10 @@ use Rattle.std.proofs.Common.{◌≡◌, ℕ, zero, suc, ◌+◌, ◌*◌, ◌<�
 use Rattle.std.proofs.Common.{Option, Some, None, refl, sym, ap, ◌∙◌, inl, inr, arith, subst, slice_get}
 use Rattle.std.specs.Prelude.{option_and_then, nat_lt}
 use Rattle.std.specs.List.{range_with_len}
-use Rattle.std.proofs.lemmas.Bool.{false≢true}
+use Rattle.std.proofs.lemmas.Bool.{false≢true, eq-eqb}
 use Rattle.std.proofs.lemmas.Option.{slice_get_within}
 use Rattle.bv_terms.specs.declared.value.Sort.{Sort}
+use Rattle.bv_terms.specs.declared.value.Sort.TheVariants as sort
 use Rattle.bv_terms.specs.WellSorted.{sort_of}
 use Rattle.bv_terms.proofs.SignatureLemmas.{same_sort-true}
 use Rattle.isel_spec.specs.File.{File, Operation, Goal}
@@ -21,7 +22,7 @@ use Rattle.pattern_core.specs.Pattern.{operation_sort, source_sort}
 use Rattle.pattern_core.specs.Order.{source_number, source_cmp}
 use Rattle.plain_search.specs.Patterns.{result_count, outs_of, sources, is_sort, sources_of}
 use Rattle.plain_search.proofs.OrderingLemmas.{Lower}
-use Rattle.plain_search.proofs.TupleLemmas.{same_sort_itself}
+use Rattle.bv_terms.specs.Sorts.{same_sort}
 
 -- each operation of a file has at most three results
 abbrev pub HasFewResults : File → Type 0
@@ -90,6 +91,11 @@ IsOrdered-sources_of f g nodes s four few =
     (IsOrdered-sources f g nodes four few))
 
 -- ---- which they are
+
+same_sort_itself : (s : Sort) → same_sort s s ≡ true
+same_sort_itself sort.Bool = refl
+same_sort_itself (sort.Bits w) = eq-eqb w w refl
+same_sort_itself sort.Mem = refl
 
 sort_is : (s t : Option Sort) → is_sort s t ≡ true → t ≡ s
 sort_is None t h = absurd (false≢true h)

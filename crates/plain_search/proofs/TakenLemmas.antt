@@ -26,10 +26,10 @@ other_test x y h = grind (arith, nat_tests, h)
 
 -- ---- put in
 
-put_after : (x y : ℕ) (ys : List ℕ) → y < x → put x (y ∷ ys) ≡ y ∷ put x ys
+pub put_after : (x y : ℕ) (ys : List ℕ) → y < x → put x (y ∷ ys) ≡ y ∷ put x ys
 put_after x y ys l = let t : nat_le x y ≡ false = grind (arith, nat_tests) in rw t refl
 
-put_before : (x y : ℕ) (ys : List ℕ) → x ≤ y → put x (y ∷ ys) ≡ x ∷ (y ∷ ys)
+pub put_before : (x y : ℕ) (ys : List ℕ) → x ≤ y → put x (y ∷ ys) ≡ x ∷ (y ∷ ys)
 put_before x y ys l = let t : nat_le x y ≡ true = grind (arith, nat_tests) in rw t refl
 
 put_least : (x : ℕ) (ys : List ℕ) → ((y : ℕ) → In ys y → x ≤ y) → put x ys ≡ x ∷ ys

@@ -1,13 +1,15 @@
 -- The number of trials by its parts, and the parts of a goal without memory.
 use Rattle.std.proofs.Common.{◌≡◌, ℕ, zero, suc, ◌+◌, ◌*◌, ◌^◌, ◌<◌, ◌≤◌, Bool, true, false, List, [], ◌∷◌, ◌++◌}
 use Rattle.std.proofs.Common.{length, filter, Option, Some, None, refl, sym, ap, subst, ◌∙◌, arith, add-one}
-use Rattle.std.proofs.Common.{slice_get, sum_by, lit≤, cond, inl, inr}
+use Rattle.std.proofs.Common.{slice_get, get_or, sum_by, lit≤, cond, inl, inr, All}
 use Rattle.std.specs.Prelude.{◌&&◌, ◌==◌, nat_lt, nat_le, SomeIff, Contains}
 use Rattle.std.specs.Option.{option_map_or}
 use Rattle.std.specs.List.{list_all, flat_map}
-use Rattle.std.proofs.Math.Nat.{mul_comm}
-use Rattle.std.proofs.lemmas.Bool.{false≢true, and_parts, eqb-true, ltb-true, lt-ltb}
+use Rattle.std.proofs.Math.Nat.{mul_comm, one-le-pow}
+use Rattle.std.proofs.Math.Pow.{pow_mono}
+use Rattle.std.proofs.lemmas.Bool.{false≢true, and_parts, eqb-true, ltb-true, lt-ltb, cases_lt}
 use Rattle.std.proofs.lemmas.List.{length-map, nil_from_length}
+use Rattle.std.proofs.lemmas.List.Sums.{sum_by-cons}
 use Rattle.std.proofs.lemmas.Nat.{mul-le, pow_pos}
 use Rattle.bv_terms.specs.declared.op.Op.TheVariants as op
 use Rattle.bv_terms.specs.declared.op.TermId.{TermId}
@@ -19,16 +21,18 @@ use Rattle.bv_terms.specs.Table.{terms_of, term_in}
 use Rattle.isel_spec.specs.declared.definitions.OpDef.{OpDef}
 use Rattle.isel_spec.specs.declared.definitions.GoalDef.{GoalDef}
 use Rattle.isel_spec.specs.declared.spec.Spec.{Spec}
-use Rattle.isel_spec.specs.File.{Operation, Goal, goal, sorts_in, results_in}
+use Rattle.isel_spec.specs.File.{File, Operation, Goal, goal, sorts_in, results_in}
 use Rattle.isel_spec.specs.Memory.{is_memory, is_on, is_marked, chain, chains, access_in, some_of, subterms_of}
 use Rattle.isel_spec.specs.Memory.{has_one_memory, has_memory_shape, accesses, same_access, each_once, accessed_bytes}
 use Rattle.isel_spec.specs.Spec.{file}
-use Rattle.isel_spec.proofs.SpecLemmas.{operation_is, goal_is, IsSoundGoal_at}
+use Rattle.isel_spec.proofs.SpecLemmas.{operation_is, goal_is, IsSoundOp_at, IsSoundGoal_at}
 use Rattle.pattern_core.specs.Rule.{HasNoMemory}
 use Rattle.plain_search.specs.Extent.{attribute_bits}
-use Rattle.plain_search.specs.Trials.{factorial, input_bits, results_of, arguments_of}
+use Rattle.plain_search.specs.Trials.{factorial, input_bits, results_of, arguments_of, source_count, place_count}
 use Rattle.plain_search.specs.Trials.{trials_of, in_64_bits}
+use Rattle.list_lemmas.proofs.Lookups.{some_at}
 use Rattle.list_lemmas.proofs.Members.{In, Contains-from_In}
+use Rattle.multiset_rank.specs.Multisets.{AreBelow}
 
 -- ---- orders
 
@@ -196,3 +200,53 @@ trials_are s k name d g ops count bits sources places e there none size wide fro
     let i = from ∙ ap (λ n. n + sum_by (results_of (file s)) ops) c.inputs in
     let r = into ∙ ap (λ n. sum_by (arguments_of (file s)) ops + n) c.results in
     λ j. factorial (size j) * 2 ^ b j * i j ^ r j
+
+-- ---- fewer than 2^64 trials
+
+-- every operation has a result
+pub some_results : (s : Spec) (k : ℕ) → k < length s.ops → 1 ≤ results_of (file s) k
+some_results s k l =
+    let at = some_at s.ops k l in
+    let sound = IsSoundOp_at s k at.0 at.1 in
+    subst (λ n. 1 ≤ n) (results_at s k at.0.0 at.0.1 at.1) sound.some
+
+-- without sources there are no bits to choose
+no_source : (f : File) (g : Goal) (ops : List ℕ) → All (λ op. 1 ≤ results_of f op) ops → source_count f g ops ≡ 0
+    → sum_by width_of g.args + attribute_bits f ops ≡ 0
+no_source f g [] some none =
+    let size : length g.args ≡ 0 = omega (arith, none) in
+    let args : g.args ≡ [] = nil_from_length g.args size in
+    ap (λ (ss : List Sort). sum_by width_of ss + attribute_bits f []) args
+no_source f g (op ∷ ops) some none =
+    let first : 1 ≤ results_of f op = some 0 0 (omega arith) in
+    let parts = sum_by-cons (results_of f) op ops in
+    absurd (omega (arith, none, first, parts))
+
+-- a product of factors of 1 or more is no less than one of them
+bits_within : (n low bits sources places : ℕ) → low ≤ bits → (sources ≡ 0 → low ≡ 0)
+    → factorial n * 2 ^ bits * sources ^ places < 2 ^ 64 → low < 64
+bits_within n low bits zero places within none few = let e = none refl in omega (arith, e)
+bits_within n low bits (suc more) places within none few =
+    elim (cases_lt low 64) [
+      | inl l ↦ l
+      | inr m ↦ absurd (too_many m)
+    ]
+  where
+    too_many : 64 ≤ low → ⊥
+    too_many m =
+        let choices : 1 ≤ suc more ^ places = one-le-pow places (suc more) (omega arith) in
+        let wide : 2 ^ 64 ≤ 2 ^ bits = pow_mono {i = 64} {j = bits} (omega (arith, m, within)) in
+        let ordered : 1 * 2 ^ 64 ≤ factorial n * 2 ^ bits =
+        mul-le 1 (2 ^ 64) (factorial n) (2 ^ bits) (factorial_pos n) wide in
+        let whole : (1 * 2 ^ 64) * 1 ≤ factorial n * 2 ^ bits * suc more ^ places =
+        mul-le (1 * 2 ^ 64) 1 (factorial n * 2 ^ bits) (suc more ^ places) ordered choices in
+        omega (arith, whole, few)
+
+-- the bits of the inputs and of the attributes are few
+pub bits_from_trials : (s : Spec) (g : Goal) (ops : List ℕ) → AreBelow (length s.ops) ops
+    → trials_of (file s) g ops < 2 ^ 64 → sum_by width_of g.args + attribute_bits (file s) ops < 64
+bits_from_trials s g ops below few =
+    let f : File = file s in
+    bits_within (length ops) (sum_by width_of g.args + attribute_bits f ops) (input_bits g + attribute_bits f ops)
+    (source_count f g ops) (place_count f g ops) (omega arith)
+    (no_source f g ops (λ k d l. some_results s (get_or ops k d) (below k d l))) few

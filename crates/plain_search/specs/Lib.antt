@@ -1,7 +1,7 @@
-pub mod Enumeration
-pub mod Cases
-pub mod Candidates
-pub mod Results
+pub mod Inputs
 pub mod Extent
 pub mod Trials
 pub mod Patterns
+pub mod Agreement
+pub mod Sieve
+pub mod Rules

@@ -5,6 +5,7 @@ ghost use Rattle.std.specs.List.{list_all};
 ghost use Rattle.bv_terms.specs.Sorts.{width_of};
 ghost use Rattle.isel_spec.specs.File.{Goal, sorts_in};
 ghost use Rattle.isel_spec.specs.Spec.{file};
+ghost use Rattle.pattern_core.specs.Rule.{HasNoMemory};
 ghost use Rattle.plain_search.specs.Extent.{is_value, takes_values, attribute_bits_of, CanSearch};
 
 use bv_terms::Sort;
@@ -97,6 +98,19 @@ fn most_attribute_bits(spec: &Spec) -> u32
     most
 }
 
+/// Whether no operation takes a memory, nor does the goal. It takes no memory itself.
+pub fn has_no_memory(spec: &Spec, goal: u32) -> bool
+    requires { goal < length spec.now.goals }
+    ensures { (g : Goal) → slice_get (file spec.now).goals goal ≡ Some g →
+        (IsTrue result ↔ HasNoMemory (file spec.now) g) }
+{
+    let args = spec.goal(goal).args.as_slice();
+    if !are_inputs_values(args) {
+        return false;
+    }
+    do_operations_take_values(spec)
+}
+
 /// Whether the plain search takes a goal for patterns of at most so many operations: no operation and not the goal
 /// has a memory, the goal's inputs have at most 12 bits together, and so have the attributes of any such operations,
 /// counted with repeats.
@@ -105,13 +119,10 @@ pub fn can_search(spec: &Spec, goal: u32, bound: u8) -> bool
     ensures { (g : Goal) → slice_get (file spec.now).goals goal ≡ Some g →
         (IsTrue result ↔ CanSearch (file spec.now) g bound) }
 {
+    if !has_no_memory(spec, goal) {
+        return false;
+    }
     let args = spec.goal(goal).args.as_slice();
-    if !are_inputs_values(args) {
-        return false;
-    }
-    if !do_operations_take_values(spec) {
-        return false;
-    }
     if value_bits(args) > MOST_BITS {
         return false;
     }

@@ -1,8 +1,5 @@
 //! A module for each subject.
 
-mod files;
-mod orders;
 mod outside;
-mod patterns;
 mod runs;
 mod tables;

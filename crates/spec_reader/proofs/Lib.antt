@@ -3,7 +3,7 @@ mod FormLemmas
 mod ResultLemmas
 mod NameLemmas
 mod FormedLemmas
-mod FileLemmas
+pub mod FileLemmas
 mod ScopeLemmas
 mod AddLemmas
 mod OnceLemmas

@@ -54,13 +54,13 @@ fn found_by(kind: SpecKind) -> u64 {
 
 /// A text without the marks `[` and `]`, and how many bytes stand before each of them.
 #[derive(Drop)]
-struct Marked {
-    text: Vec<u8>,
-    from: usize,
-    to: usize,
+pub(super) struct Marked {
+    pub(super) text: Vec<u8>,
+    pub(super) from: usize,
+    pub(super) to: usize,
 }
 
-fn without_marks(alloc: Global, bytes: &[u8]) -> Result<Marked, AllocError> {
+pub(super) fn without_marks(alloc: Global, bytes: &[u8]) -> Result<Marked, AllocError> {
     let mut text = Vec::new(alloc);
     let mut from = 0;
     let mut to = 0;

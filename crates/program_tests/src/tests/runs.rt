@@ -1,4 +1,4 @@
-//! What a run ends with, on worked files: with ample memory it does not answer that memory ran out.
+//! What a run ends with, on whole files: with ample memory it does not answer that memory ran out.
 
 use isel_base::{MemFiles, MemSink};
 use isel_cmd::run_here;
@@ -17,15 +17,54 @@ const OR1_LIBRARY: &str = "(isel-library 1)\n\
     (rule ((ior1 i1 i0)) (n0.0))\n\
     )\n";
 
-/// A goal of 16 input bits.
+/// A goal that is one operation, and one that is its input.
+const TWO_GOALS: &str = "(isel-spec 1 32)\n\
+    (op not2 ((a (_ BitVec 2))) () ((bvnot a)))\n\
+    (goal flip ((reg a (_ BitVec 2))) 1 ((bvnot a)))\n\
+    (goal same ((reg a (_ BitVec 2))) 0 (a))\n";
+
+const TWO_ANSWERS: &str = "(isel-library 1)\n\
+    (goal flip complete 1\n \
+    (rule ((not2 i0)) (n0.0))\n\
+    )\n\
+    (goal same complete 0\n \
+    (rule () (i0))\n\
+    )\n";
+
+/// A goal that takes two operations.
+const NAND1: &str = "(isel-spec 1 32)\n\
+    (op not1 ((a (_ BitVec 1))) () ((bvnot a)))\n\
+    (op and1 ((a (_ BitVec 1)) (b (_ BitVec 1))) () ((bvand a b)))\n\
+    (goal nand1 ((reg a (_ BitVec 1)) (reg b (_ BitVec 1))) 1 ((bvnot (bvand a b))))\n";
+
+const NAND1_LIBRARY: &str = "(isel-library 1)\n\
+    (goal nand1 complete 2\n \
+    (rule ((and1 i0 i1) (not1 n0.0)) (n1.0))\n \
+    (rule ((and1 i1 i0) (not1 n0.0)) (n1.0))\n\
+    )\n";
+
+/// Goals of 16 input bits.
 const WIDE: &str = "(isel-spec 1 32)\n\
     (op not8 ((a (_ BitVec 8))) () ((bvnot a)))\n\
     (goal andn8 ((reg a (_ BitVec 8)) (reg b (_ BitVec 8))) 1 ((bvand (bvnot a) b)))\n";
 
-/// A goal that is its first input.
+/// A goal that is its first input, before the operations.
 const MOVE4: &str = "(isel-spec 1 32) \
     (goal m ((reg a (_ BitVec 4)) (reg b (_ BitVec 4))) 0 (a)) \
     (op n ((a (_ BitVec 4))) () ((bvnot a)))";
+
+/// An operation that loads.
+const LOAD: &str = "(isel-spec 1 32)\n\
+    (op load8 ((m Mem) (p (_ BitVec 32))) () ((mmark 1 m p) (mload 1 m p)))\n\
+    (goal same ((reg a (_ BitVec 4))) 0 (a))\n";
+
+/// A goal that stores.
+const STORE: &str = "(isel-spec 1 32)\n\
+    (op not8 ((a (_ BitVec 8))) () ((bvnot a)))\n\
+    (goal put8 ((mem m Mem) (reg p (_ BitVec 32)) (reg a (_ BitVec 8))) 1 ((mstore 1 m p a)))\n";
+
+/// A term that names nothing, in the second line.
+const UNKNOWN: &str = "(isel-spec 1 32)\n(op not4 ((a (_ BitVec 4))) () ((bvnot b)))\n";
 
 /// The library of a goal for which there is no pattern.
 const NO_PATTERN: &str = "(isel-library 1)\n(goal or1 none)\n";
@@ -33,14 +72,14 @@ const NO_PATTERN: &str = "(isel-library 1)\n(goal or1 none)\n";
 /// The library of a goal that is its input.
 const INPUT: &str = "(isel-library 1)\n(goal m complete 0\n (rule () (i0))\n)\n";
 
-const NO_FORM: &str = "words: no such form\n";
-
-const OUTSIDE: &str = "f: Outside\n";
-
-const READ_FAULT: &str = "f: ReadFault\n";
-
 /// The words that ask for patterns of one operation.
 const ONE: &str = "synth f --bound 1";
+
+/// A number that no read and no put has.
+const NEVER: u64 = u64::MAX;
+
+/// More bytes than a library or a note has.
+const LARGE: usize = 1 << 20;
 
 fn words_of(alloc: Global, line: &str) -> Result<Vec<String>, AllocError> {
     let mut words = Vec::new(alloc);
@@ -51,11 +90,11 @@ fn words_of(alloc: Global, line: &str) -> Result<Vec<String>, AllocError> {
 }
 
 /// One file of the name `f`, of whose reads that number fails.
-fn files_of(alloc: Global, text: &str, failing: u64) -> Result<MemFiles, AllocError> {
+fn files_of(alloc: Global, bytes: &[u8], failing: u64) -> Result<MemFiles, AllocError> {
     let mut files = Vec::new(alloc);
     files.push((
         String::from_str(alloc, "f")?,
-        Vec::from_slice(alloc, text.as_bytes())?,
+        Vec::from_slice(alloc, bytes)?,
     ))?;
     Ok(MemFiles::new(files, LARGE, Vec::from_slice(alloc, &[failing])?))
 }
@@ -65,11 +104,11 @@ fn sink_of(alloc: Global, step: usize, failing: u64) -> Result<MemSink, AllocErr
     Ok(MemSink::new(alloc, step.max(1), Vec::from_slice(alloc, &[failing])?))
 }
 
-/// What a run finds outside: the bytes of the file `f`, which of its reads fails, how many bytes `out` takes at a time,
-/// and which puts of `out` and of `notes` fail.
+/// What a run finds outside: the bytes of the file `f`, which of its reads fails, how many bytes `out` and `notes` take
+/// at a time, and which of their puts fail.
 #[derive(Clone, Copy)]
 struct Outside<'a> {
-    text: &'a str,
+    bytes: &'a [u8],
     read: u64,
     step: usize,
     put: u64,
@@ -85,9 +124,9 @@ fn ended(
     note: &str,
 ) -> Result<(u8, bool, bool), AllocError> {
     let words = words_of(alloc, line)?;
-    let mut files = files_of(alloc, outside.text, outside.read)?;
+    let mut files = files_of(alloc, outside.bytes, outside.read)?;
     let mut out = sink_of(alloc, outside.step, outside.put)?;
-    let mut notes = sink_of(alloc, LARGE, outside.note_put)?;
+    let mut notes = sink_of(alloc, outside.step, outside.note_put)?;
     let status = run_here(alloc, &words, &mut files, &mut out, &mut notes);
     Ok((
         status,
@@ -96,70 +135,144 @@ fn ended(
     ))
 }
 
-/// A number that no read and no put has.
-const NEVER: u64 = u64::MAX;
+/// A file `f` of these bytes, where no read and no put fails.
+fn without_faults(bytes: &[u8]) -> Outside<'_> {
+    Outside {
+        bytes,
+        read: NEVER,
+        step: LARGE,
+        put: NEVER,
+        note_put: NEVER,
+    }
+}
 
-/// More bytes than a library or a note has.
-const LARGE: usize = 1 << 20;
+/// Whether a run on that file writes this library, and no note.
+fn writes(alloc: Global, line: &str, text: &str, library: &str) -> Result<bool, AllocError> {
+    Ok(ended(alloc, line, without_faults(text.as_bytes()), library, "")? == (0, true, true))
+}
 
-/// A name, the words, the bytes of the file `f`, the status, the library and the note.
-const RUNS: [(&str, &str, &str, u8, &str, &str); 13] = [
-    ("rules", ONE, OR1, 0, OR1_LIBRARY, ""),
-    ("no pattern", "synth f --bound 0", OR1, 0, NO_PATTERN, ""),
-    ("an input", ONE, MOVE4, 0, INPUT, ""),
-    ("too many bits", ONE, WIDE, 3, "", OUTSIDE),
-    ("an empty file", ONE, "", 3, "", OUTSIDE),
-    (
-        "a comment",
-        ONE,
-        "(isel-spec 1 32) ; nothing",
-        3,
-        "",
-        OUTSIDE,
-    ),
-    ("no file", "synth g --bound 1", OR1, 4, "", "g: ReadFault\n"),
-    ("a large bound", "synth f --bound 2", OR1, 2, "", NO_FORM),
-    ("a leading zero", "synth f --bound 01", OR1, 2, "", NO_FORM),
-    (
-        "the order of words",
-        "synth --bound 1 f",
-        OR1,
-        2,
-        "",
-        NO_FORM,
-    ),
-    ("a dash", "synth -f --bound 1", OR1, 2, "", NO_FORM),
-    (
-        "a word more",
-        "synth f --bound 1 --json",
-        OR1,
-        2,
-        "",
-        NO_FORM,
-    ),
-    ("no words", "", OR1, 2, "", NO_FORM),
+/// Whether a run on that file refuses it with this note, and writes no library.
+fn refuses(alloc: Global, bytes: &[u8], note: &str) -> Result<bool, AllocError> {
+    Ok(ended(alloc, ONE, without_faults(bytes), "", note)? == (3, true, true))
+}
+
+/// Whether words have no form.
+fn has_no_form(alloc: Global, line: &str) -> Result<bool, AllocError> {
+    let outside = without_faults(OR1.as_bytes());
+    Ok(ended(alloc, line, outside, "", "words: no such form\n")? == (2, true, true))
+}
+
+/// That many spaces.
+fn spaces(alloc: Global, count: usize) -> Result<Vec<u8>, AllocError> {
+    vec![in alloc; b' '; count]
+}
+
+/// A name, the words, the bytes of the file `f`, and the library.
+const LIBRARIES: [(&str, &str, &str, &str); 6] = [
+    ("rules", ONE, OR1, OR1_LIBRARY),
+    ("no pattern", "synth f --bound 0", OR1, NO_PATTERN),
+    ("an input", ONE, MOVE4, INPUT),
+    ("two goals", ONE, TWO_GOALS, TWO_ANSWERS),
+    ("a bound of 2", "synth f --bound 2", NAND1, NAND1_LIBRARY),
+    ("a bound of 3", "synth f --bound 3", MOVE4, INPUT),
 ];
 
 #[test]
-fn words_and_files_end_with_their_status(rt: HostRuntime) -> Result<(), Fail> {
-    for (case, line, text, status, library, note) in RUNS {
-        let outside = Outside {
-            text,
-            read: NEVER,
-            step: LARGE,
-            put: NEVER,
-            note_put: NEVER,
-        };
-        let ended = ended(rt.alloc(), line, outside, library, note)?;
-        assert!(rt; ended == (status, true, true), "{case}");
+fn accepted_files_have_their_library(rt: HostRuntime) -> Result<(), Fail> {
+    for (case, line, text, library) in LIBRARIES {
+        let writes = writes(rt.alloc(), line, text, library)?;
+        assert!(rt; writes, "{case}");
     }
     Ok(())
 }
 
-/// A name, the bytes of the file `f`, its read that fails, the step of `out`, the puts of `out` and of `notes` that
-/// fail, the status, what is written of the library, and the note.
-const FAULTS: [(&str, &str, u64, usize, u64, u64, u8, &str, &str); 5] = [
-    ("a read", OR1, 1, LARGE, NEVER, NEVER, 4, "", READ_FAULT),
+/// A name, the bytes of the file `f`, and the note.
+const REFUSED: [(&str, &str, &str); 8] = [
+    ("too many input bits", WIDE, "f: Wide\n"),
+    ("an operation with a memory", LOAD, "f: MemLater\n"),
+    ("a goal with a memory", STORE, "f: MemLater\n"),
+    ("a name of nothing", UNKNOWN, "f:2:40: Unknown\n"),
+    (
+        "an open list",
+        "(isel-spec 1 32)\n (op n",
+        "f:2:2: Unclosed\n",
+    ),
+    ("a stray end", "(isel-spec 1 32))", "f:1:17: Stray\n"),
+    ("an empty file", "", "f:1:1: Head\n"),
+    (
+        "no operation",
+        "(isel-spec 1 32) ; none\n",
+        "f:2:1: Limit\n",
+    ),
+];
+
+#[test]
+fn other_files_are_refused_with_their_reason(rt: HostRuntime) -> Result<(), Fail> {
+    for (case, text, note) in REFUSED {
+        let refuses = refuses(rt.alloc(), text.as_bytes(), note)?;
+        assert!(rt; refuses, "{case}");
+    }
+    Ok(())
+}
+
+#[test]
+fn a_file_of_too_many_bytes_is_refused(rt: HostRuntime) -> Result<(), Fail> {
+    let most = spaces(rt.alloc(), LARGE)?;
+    let more = spaces(rt.alloc(), LARGE + 1)?;
+    let looked_at = refuses(rt.alloc(), &most, "f:1:1048577: Head\n")?;
+    let too_long = refuses(rt.alloc(), &more, "f: TooLong\n")?;
+    assert!(rt; looked_at, "2^20 bytes");
+    assert!(rt; too_long, "2^20 + 1 bytes");
+    Ok(())
+}
+
+const NO_FORM: [&str; 7] = [
+    "",
+    "synth f --bound 4",
+    "synth f --bound 01",
+    "synth --bound 1 f",
+    "synth -f --bound 1",
+    "synth f --bound 1 --json",
+    "read f --bound 1",
+];
+
+#[test]
+fn other_words_have_no_form(rt: HostRuntime) -> Result<(), Fail> {
+    for line in NO_FORM {
+        let none = has_no_form(rt.alloc(), line)?;
+        assert!(rt; none, "{line}");
+    }
+    Ok(())
+}
+
+#[test]
+fn a_name_without_a_file_cannot_be_read(rt: HostRuntime) -> Result<(), Fail> {
+    let outside = without_faults(OR1.as_bytes());
+    let ended = ended(
+        rt.alloc(),
+        "synth g --bound 1",
+        outside,
+        "",
+        "g: ReadFault\n",
+    )?;
+    assert!(rt; ended == (4, true, true));
+    Ok(())
+}
+
+/// A name, the bytes of the file `f`, its read that fails, how many bytes the sinks take at a time, the puts of `out`
+/// and of `notes` that fail, the status, what is written of the library, and of the note.
+const FAULTS: [(&str, &str, u64, usize, u64, u64, u8, &str, &str); 6] = [
+    (
+        "a read",
+        OR1,
+        1,
+        LARGE,
+        NEVER,
+        NEVER,
+        4,
+        "",
+        "f: ReadFault\n",
+    ),
     ("the first put", OR1, NEVER, LARGE, 0, NEVER, 5, "", ""),
     (
         "the second put",
@@ -184,13 +297,24 @@ const FAULTS: [(&str, &str, u64, usize, u64, u64, u8, &str, &str); 5] = [
         "",
     ),
     ("the note", WIDE, NEVER, LARGE, NEVER, 0, 5, "", ""),
+    (
+        "the note's second put",
+        WIDE,
+        NEVER,
+        4,
+        NEVER,
+        1,
+        5,
+        "",
+        "f: W",
+    ),
 ];
 
 #[test]
 fn failing_reads_and_writes_end_with_their_status(rt: HostRuntime) -> Result<(), Fail> {
     for (case, text, read, step, put, note_put, status, library, note) in FAULTS {
         let outside = Outside {
-            text,
+            bytes: text.as_bytes(),
             read,
             step,
             put,

@@ -5,7 +5,7 @@ use Rattle.isel_cmd.proofs.program.refuse.Goals as goal
 pub returns-in-Ok-clause-cut : goal.returns-in-Ok-clause-cut
 returns-in-Ok-clause-cut g c = λ five.
     let P : List ℕ → Type 0 =
-    λ t. HasPrefix (g.E.Sink.written c.args.notes.now) t (g.E.Sink.written c.tell.new.notes) in
+    λ text. HasPrefix (g.E.Sink.written c.args.notes.now) text (g.E.Sink.written c.tell.new.notes) in
     inl (subst P (c.as_bytes.ensures.value ∙ c.in-Ok.ensures) (c.tell.ensures.cut five))
 
 pub returns-in-Err-clause-cut : goal.returns-in-Err-clause-cut

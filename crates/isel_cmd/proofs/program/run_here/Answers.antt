@@ -1,97 +1,123 @@
-use Rattle.std.proofs.Common.{◌≡◌, ◌≢◌, ℕ, List, Some, [], map, ◌⊎◌, ◌↔◌, ◌++◌, ◌∙◌, sym, subst, arith}
+use Rattle.std.proofs.Common.{◌≡◌, ◌≢◌, ℕ, List, Some, map, ◌↔◌, ◌++◌, ◌∙◌, sym, ap, subst, arith}
+use Rattle.std.specs.Prelude.{IsTrue}
 use Rattle.std.specs.String.{string_bytes}
-use Rattle.isel_base.specs.Outside.{Rose}
+use Rattle.isel_base.specs.Outside.{Rose, ReadsOnly}
+use Rattle.isel_cmd.specs.Words.{Task, Synth, HasNoForm, file_of}
+use Rattle.isel_cmd.specs.Command.{task_of}
 use Rattle.isel_cmd.specs.Status.{number_of}
-use Rattle.isel_cmd.specs.Words.{HasNoForm}
-use Rattle.isel_cmd.specs.Program.{IsNoFile, WritesLibrary, WritesAtMostPart, CutsNote, IsToldNoFile, IsCommandStatus}
-use Rattle.isel_cmd.specs.Program.{with_text, note_of}
-use Rattle.isel_cmd.proofs.FormLemmas.{of_each, synth_of}
-use Rattle.isel_cmd.proofs.ExactLemmas.{refused_exactly, told_exactly, never_two, complete_from}
+use Rattle.isel_cmd.specs.Program.{IsWork, IsNote, IsSomeNote, Writes, WritesAtMostPart, IsTaskStatus, with_text}
+use Rattle.isel_cmd.specs.Program.{no_form_line}
+use Rattle.isel_cmd.proofs.TaskLemmas.{task_found}
+use Rattle.isel_cmd.proofs.NoteLemmas.{refused_of, line_of_reason, no_work, complete_from}
+use Rattle.isel_cmd.proofs.ExactLemmas.{refused_exactly, told_exactly, never_two}
 use Rattle.isel_cmd.proofs.program.run_here.Goals as goal
 
-pub returns-in-Some-clause-headline : goal.returns-in-Some-clause-headline
-returns-in-Some-clause-headline g c = λ name bytes bound is told zero.
-    let P : List ℕ → ℕ → Type 0 = λ n b. g.F.Files.bytes c.args.files.now n ≡ Some bytes
-    → WritesLibrary bytes b (g.S.Sink.written c.args.out.now) (g.S.Sink.written c.synth.new.out) in
-    of_each P _ c.in-Some.command name c.file.result.now bound c.bound.result is c.in-Some.ensures c.file.ensures
-    c.bound.ensures
-    (λ t. c.synth.ensures.headline bytes t (sym c.number-in-Some.ensures ∙ zero)) told
-
-pub returns-in-Some-clause-refused : goal.returns-in-Some-clause-refused
-returns-in-Some-clause-refused g c = λ name bytes bound is told three.
-    let P : List ℕ → ℕ → Type 0 = λ n b. g.F.Files.bytes c.args.files.now n ≡ Some bytes → IsNoFile bytes in
-    of_each P _ c.in-Some.command name c.file.result.now bound c.bound.result is c.in-Some.ensures c.file.ensures
-    c.bound.ensures
-    (λ t. c.synth.ensures.refused bytes t (sym c.number-in-Some.ensures ∙ three)) told
-
-pub returns-in-Some-clause-cut : goal.returns-in-Some-clause-cut
-returns-in-Some-clause-cut g c = λ name bytes bound is told five.
-    let P : List ℕ → ℕ → Type 0 = λ n b. g.F.Files.bytes c.args.files.now n ≡ Some bytes
-    → WritesAtMostPart bytes b (g.S.Sink.written c.args.out.now) (g.S.Sink.written c.synth.new.out) in
-    of_each P _ c.in-Some.command name c.file.result.now bound c.bound.result is c.in-Some.ensures c.file.ensures
-    c.bound.ensures
-    (λ t. c.synth.ensures.cut bytes t (sym c.number-in-Some.ensures ∙ five)) told
-
-pub returns-in-Some-clause-refused_only : goal.returns-in-Some-clause-refused_only
-returns-in-Some-clause-refused_only g c = λ name bytes bound is told no_file zero.
-    let done = returns-in-Some-clause-headline g c name bytes bound is told zero in
-    no_file done.1.file done.1.is_file
-
-pub returns-in-Some-clause-cut_line : goal.returns-in-Some-clause-cut_line
-returns-in-Some-clause-cut_line g c = λ name bound is five.
-    let old = g.E.Sink.written c.args.notes.now in let new = g.E.Sink.written c.synth.new.notes in
-    let P : List ℕ → ℕ → Type 0 = λ n b. (new ≡ old) ⊎ CutsNote (IsToldNoFile (g.F.Files.bytes c.args.files.now n))
-    (Rose (g.F.Files.faults c.args.files.now n) (g.F.Files.faults c.synth.new.files n)) n old new in
-    of_each P _ c.in-Some.command name c.file.result.now bound c.bound.result is c.in-Some.ensures c.file.ensures
-    c.bound.ensures
-    (c.synth.ensures.cut_line (sym c.number-in-Some.ensures ∙ five))
+-- ---- words without a form
 
 pub returns-in-None-clause-no_form_exact : goal.returns-in-None-clause-no_form_exact
-returns-in-None-clause-no_form_exact g c = λ before told.
+returns-in-None-clause-no_form_exact g c = λ before tells.
     let new = g.E.Sink.written c.tell.new.notes in
     let P : ℕ → Type 0 = λ r. (r ≡ 2)
-    ↔ (HasNoForm (map string_bytes c.args.words.now) × (new ≡ Some (before ++ note_of 2 []))) in
+    ↔ (HasNoForm (map string_bytes c.args.words.now) × (new ≡ Some (before ++ no_form_line))) in
     subst P (sym c.number.ensures)
     (told_exactly (HasNoForm (map string_bytes c.args.words.now)) (number_of c.tell.result) 2
-    (note_of 2 []) before _ _ c.in-None.ensures
-    (λ e. omega (arith, e)) c.tell.ensures.status c.tell.ensures.told c.tell.ensures.cut told)
+    no_form_line before _ _ c.in-None.ensures
+    (λ e. omega (arith, e)) c.tell.ensures.status c.tell.ensures.told c.tell.ensures.cut tells)
+
+-- ---- words of a task
+
+pub returns-in-Some-clause-headline : goal.returns-in-Some-clause-headline
+returns-in-Some-clause-headline g c = λ task is zero.
+    let same = task_found _ task (task_of c.in-Some.command) c.file.result.now c.bound.result c.in-Some.ensures
+    c.file.ensures c.bound.ensures is in
+    let P : Task → Type 0 = λ t. Writes (IsWork (g.F.Files.bytes c.args.files.now) t)
+    (g.S.Sink.written c.args.out.now) (g.S.Sink.written c.synth.new.out) in
+    subst P same (c.synth.ensures.headline (sym c.number-in-Some.ensures ∙ zero))
+
+pub returns-in-Some-clause-cut : goal.returns-in-Some-clause-cut
+returns-in-Some-clause-cut g c = λ task is five.
+    let same = task_found _ task (task_of c.in-Some.command) c.file.result.now c.bound.result c.in-Some.ensures
+    c.file.ensures c.bound.ensures is in
+    let P : Task → Type 0 = λ t. WritesAtMostPart (IsWork (g.F.Files.bytes c.args.files.now) t)
+    (g.S.Sink.written c.args.out.now) (g.S.Sink.written c.synth.new.out) in
+    subst P same (c.synth.ensures.cut (sym c.number-in-Some.ensures ∙ five))
+
+pub returns-in-Some-clause-form : goal.returns-in-Some-clause-form
+returns-in-Some-clause-form g c = λ task is. subst IsTaskStatus (sym c.number-in-Some.ensures) c.synth.ensures.status
 
 pub returns-in-Some-clause-no_form_exact : goal.returns-in-Some-clause-no_form_exact
-returns-in-Some-clause-no_form_exact g c = λ before told.
-    never_two _ _ c.number-in-Some.result (subst IsCommandStatus (sym c.number-in-Some.ensures) c.synth.ensures.status)
-    (λ none. none _ _ (synth_of _ c.in-Some.command c.in-Some.ensures))
+returns-in-Some-clause-no_form_exact g c = λ before tells.
+    never_two _ _ c.number-in-Some.result (subst IsTaskStatus (sym c.number-in-Some.ensures) c.synth.ensures.status)
+    (λ none. none (task_of c.in-Some.command) c.in-Some.ensures)
 
 pub returns-in-Some-clause-line : goal.returns-in-Some-clause-line
-returns-in-Some-clause-line g c = λ name bound is.
-    let old = g.E.Sink.written c.args.notes.now in let new = g.E.Sink.written c.synth.new.notes in
-    let P : List ℕ → ℕ → Type 0 =
-    λ n b. c.number-in-Some.result ≢ 5 → new ≡ with_text (note_of c.number-in-Some.result n) old in
-    let Q : ℕ → Type 0 = λ r. r ≢ 5 → new ≡ with_text (note_of r c.file.result.now) old in
-    of_each P _ c.in-Some.command name c.file.result.now bound c.bound.result is c.in-Some.ensures c.file.ensures
-    c.bound.ensures
-    (subst Q (sym c.number-in-Some.ensures) c.synth.ensures.line)
+returns-in-Some-clause-line g c = λ task is.
+    let same = task_found _ task (task_of c.in-Some.command) c.file.result.now c.bound.result c.in-Some.ensures
+    c.file.ensures c.bound.ensures is in
+    let failed : List ℕ → Type 0 =
+    λ other. Rose (g.F.Files.faults c.args.files.now other) (g.F.Files.faults c.synth.new.files other) in
+    let P : Task → ℕ → Type 0 = λ t r. r ≢ 5 → Writes (IsNote (g.F.Files.bytes c.args.files.now) failed t r)
+    (g.E.Sink.written c.args.notes.now) (g.E.Sink.written c.synth.new.notes) in
+    let Q : Task → Type 0 = λ t. P t c.number-in-Some.result in
+    subst Q same
+    (subst (P (Synth c.file.result.now c.bound.result)) (sym c.number-in-Some.ensures) c.synth.ensures.line)
+
+pub returns-in-Some-clause-cut_line : goal.returns-in-Some-clause-cut_line
+returns-in-Some-clause-cut_line g c = λ task is five.
+    let same = task_found _ task (task_of c.in-Some.command) c.file.result.now c.bound.result c.in-Some.ensures
+    c.file.ensures c.bound.ensures is in
+    let failed : List ℕ → Type 0 =
+    λ other. Rose (g.F.Files.faults c.args.files.now other) (g.F.Files.faults c.synth.new.files other) in
+    let P : Task → Type 0 = λ t. WritesAtMostPart (IsSomeNote (g.F.Files.bytes c.args.files.now) failed t)
+    (g.E.Sink.written c.args.notes.now) (g.E.Sink.written c.synth.new.notes) in
+    subst P same (c.synth.ensures.cut_line (sym c.number-in-Some.ensures ∙ five))
+
+pub returns-in-Some-clause-refused_only : goal.returns-in-Some-clause-refused_only
+returns-in-Some-clause-refused_only g c = λ task bytes reason is told why zero.
+    let work = returns-in-Some-clause-headline g c task is zero in
+    no_work (g.F.Files.bytes c.args.files.now) task bytes work.0 reason told why work.1
+
+pub returns-in-Some-clause-refused_line : goal.returns-in-Some-clause-refused_line
+returns-in-Some-clause-refused_line g c = λ task bytes reason is told why three.
+    let failed : List ℕ → Type 0 =
+    λ other. Rose (g.F.Files.faults c.args.files.now other) (g.F.Files.faults c.synth.new.files other) in
+    let note = returns-in-Some-clause-line g c task is (λ five. omega (arith, three, five)) in
+    note.2
+    ∙ ap (λ (text : List ℕ). with_text text (g.E.Sink.written c.args.notes.now))
+    (line_of_reason (g.F.Files.bytes c.args.files.now) task bytes note.0 reason told why
+    (refused_of (g.F.Files.bytes c.args.files.now) failed task c.number-in-Some.result note.0 note.1 three))
 
 pub returns-in-Some-clause-refused_exact : goal.returns-in-Some-clause-refused_exact
-returns-in-Some-clause-refused_exact g c = λ name bytes before bound is told tells.
-    refused_exactly (IsNoFile bytes) _ _ c.number-in-Some.result name before
+returns-in-Some-clause-refused_exact g c = λ task before is tells.
+    let failed : List ℕ → Type 0 =
+    λ other. Rose (g.F.Files.faults c.args.files.now other) (g.F.Files.faults c.synth.new.files other) in
+    refused_exactly (g.F.Files.bytes c.args.files.now) failed task c.number-in-Some.result before
     (g.E.Sink.written c.args.notes.now) (g.E.Sink.written c.synth.new.notes)
-    (subst IsCommandStatus (sym c.number-in-Some.ensures) c.synth.ensures.status)
-    (returns-in-Some-clause-refused_only g c name bytes bound is told)
-    (returns-in-Some-clause-refused g c name bytes bound is told)
-    (returns-in-Some-clause-line g c name bound is) (returns-in-Some-clause-cut_line g c name bound is) tells
+    (returns-in-Some-clause-form g c task is) (returns-in-Some-clause-line g c task is)
+    (returns-in-Some-clause-cut_line g c task is) tells
 
-pub returns-in-Some-clause-read_fault : goal.returns-in-Some-clause-read_fault
-returns-in-Some-clause-read_fault g c = λ name bound is four.
-    let P : List ℕ → ℕ → Type 0 =
-    λ n b. Rose (g.F.Files.faults c.args.files.now n) (g.F.Files.faults c.synth.new.files n) in
-    of_each P _ c.in-Some.command name c.file.result.now bound c.bound.result is c.in-Some.ensures c.file.ensures
-    c.bound.ensures
-    (c.synth.ensures.read_fault (sym c.number-in-Some.ensures ∙ four))
+pub returns-in-Some-clause-reads_only : goal.returns-in-Some-clause-reads_only
+returns-in-Some-clause-reads_only g c = λ task is.
+    let same = task_found _ task (task_of c.in-Some.command) c.file.result.now c.bound.result c.in-Some.ensures
+    c.file.ensures c.bound.ensures is in
+    let P : Task → Type 0 =
+    λ t. ReadsOnly g.F.Files.read_leaves (file_of t) c.args.files.now c.synth.new.files in
+    subst P same c.synth.ensures.only
 
 pub returns-in-Some-clause-complete : goal.returns-in-Some-clause-complete
-returns-in-Some-clause-complete g c = λ name bytes bound f is told file read out notes.
-    complete_from (IsNoFile bytes) _ _ _ c.number-in-Some.result
-    (subst IsCommandStatus (sym c.number-in-Some.ensures) c.synth.ensures.status)
-    (returns-in-Some-clause-refused g c name bytes bound is told) (returns-in-Some-clause-read_fault g c name bound is)
-    (λ five. c.synth.ensures.write_fault (sym c.number-in-Some.ensures ∙ five))
-    (λ none. none f file) read out notes
+returns-in-Some-clause-complete g c = λ task bytes f is told accepted read out notes.
+    let failed : List ℕ → Type 0 =
+    λ other. Rose (g.F.Files.faults c.args.files.now other) (g.F.Files.faults c.synth.new.files other) in
+    complete_from (g.F.Files.bytes c.args.files.now) failed task c.number-in-Some.result
+    (g.E.Sink.written c.args.notes.now) (g.E.Sink.written c.synth.new.notes) bytes f
+    (Rose (g.S.Sink.faults c.args.out.now) (g.S.Sink.faults c.synth.new.out))
+    (Rose (g.E.Sink.faults c.args.notes.now) (g.E.Sink.faults c.synth.new.notes))
+    (returns-in-Some-clause-form g c task is) told accepted (returns-in-Some-clause-line g c task is)
+    (λ five. c.synth.ensures.write_fault (sym c.number-in-Some.ensures ∙ five)) read out notes
+
+pub returns-in-Some-clause-steady : goal.returns-in-Some-clause-steady
+returns-in-Some-clause-steady g c = λ task is never four.
+    let same = task_found _ task (task_of c.in-Some.command) c.file.result.now c.bound.result c.in-Some.ensures
+    c.file.ensures c.bound.ensures is in
+    let P : Task → Type 0 = λ t. IsTrue (g.F.Files.never_fails c.args.files.now (file_of t)) in
+    c.synth.ensures.steady (subst P (sym same) never) (sym c.number-in-Some.ensures ∙ four)

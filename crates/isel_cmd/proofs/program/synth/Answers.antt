@@ -1,37 +1,91 @@
-use Rattle.std.proofs.Common.{◌≡◌, ℕ, List, ap, Err, inl, inr, refl, subst}
+use Rattle.std.proofs.Common.{◌≡◌, ℕ, List, Err, inl, inr, ⊎_elim, refl, ap, subst}
 use Rattle.std.specs.String.{string_bytes}
-use Rattle.isel_base.specs.Outside.{HasPrefix}
-use Rattle.isel_cmd.specs.declared.program.Refusal.TheVariants.{Outside, ReadFault}
+use Rattle.isel_base.specs.Outside.{Rose, HasPrefix}
+use Rattle.isel_cmd.specs.declared.refusal.Failure.{Failure}
+use Rattle.isel_cmd.specs.declared.refusal.Failure.TheVariants as failure
+use Rattle.isel_cmd.specs.Words.{Synth}
 use Rattle.isel_cmd.specs.Status.{number_of}
-use Rattle.isel_cmd.proofs.RefusalLemmas.{refused_three, refused_four, begun}
+use Rattle.isel_cmd.specs.Program.{with_text}
+use Rattle.isel_cmd.proofs.NoteLemmas.{no_note, failure_note, cut_note, failed_status, failed_not_done, failed_read}
 use Rattle.isel_cmd.proofs.program.synth.Goals as goal
 
+pub returns-in-Err-clause-line : goal.returns-in-Err-clause-line
+returns-in-Err-clause-line g c =
+    failure_note (g.F.Files.bytes c.args.files.now)
+    (λ (other : List ℕ). Rose (g.F.Files.faults c.args.files.now other) (g.F.Files.faults c.library.new.files other))
+    (Synth c.args.name.now c.args.bound) c.in-Err.failure (number_of c.refuse.result)
+    (g.E.Sink.written c.args.notes.now) (g.E.Sink.written c.refuse.new.notes) c.in-Err.ensures.outcome
+    c.refuse.ensures.status c.refuse.ensures.told c.refuse.ensures.told_memory
+
+pub returns-in-Err-clause-cut_line : goal.returns-in-Err-clause-cut_line
+returns-in-Err-clause-cut_line g c = λ five.
+    cut_note (g.F.Files.bytes c.args.files.now)
+    (λ (other : List ℕ). Rose (g.F.Files.faults c.args.files.now other) (g.F.Files.faults c.library.new.files other))
+    (Synth c.args.name.now c.args.bound) c.in-Err.failure
+    (g.E.Sink.written c.args.notes.now) (g.E.Sink.written c.refuse.new.notes) c.in-Err.ensures.outcome
+    (c.refuse.ensures.cut five)
+
 pub returns-in-Ok-clause-cut : goal.returns-in-Ok-clause-cut
-returns-in-Ok-clause-cut g c = λ bytes told five.
-    let P : List ℕ → Type 0 = λ t. HasPrefix (g.S.Sink.written c.args.out.now) t (g.S.Sink.written c.deliver.new.out) in
+returns-in-Ok-clause-cut g c = λ five.
+    let P : List ℕ → Type 0 =
+    λ text. HasPrefix (g.S.Sink.written c.args.out.now) text (g.S.Sink.written c.deliver.new.out) in
     inr (
       string_bytes c.in-Ok.text,
-      c.in-Ok.ensures.text bytes told,
+      c.in-Ok.ensures.outcome,
       subst P c.as_str.ensures.value (c.deliver.ensures.cut five),
     )
 
-pub returns-in-Err-clause-refused : goal.returns-in-Err-clause-refused
-returns-in-Err-clause-refused g c = λ bytes told three.
-    let same : c.in-Err.refusal ≡ Outside =
-    refused_three c.in-Err.refusal (number_of c.refuse.result) three c.refuse.ensures.status in
-    c.in-Err.ensures.outside bytes told (ap (λ r. Err r) same)
+pub returns-in-Ok-clause-headline : goal.returns-in-Ok-clause-headline
+returns-in-Ok-clause-headline g c = λ zero.
+    let P : List ℕ → Type 0 =
+    λ text. g.S.Sink.written c.deliver.new.out ≡ with_text text (g.S.Sink.written c.args.out.now) in (
+      string_bytes c.in-Ok.text,
+      c.in-Ok.ensures.outcome,
+      subst P c.as_str.ensures.value (c.deliver.ensures.done zero),
+    )
+
+pub returns-in-Ok-clause-line : goal.returns-in-Ok-clause-line
+returns-in-Ok-clause-line g c = λ other.
+    no_note (g.F.Files.bytes c.args.files.now)
+    (λ (name : List ℕ). Rose (g.F.Files.faults c.args.files.now name) (g.F.Files.faults c.library.new.files name))
+    (Synth c.args.name.now c.args.bound) (number_of c.deliver.result) (g.E.Sink.written c.args.notes.now)
+    (⊎_elim (λ zero. zero) (λ five. absurd (other five)) c.deliver.ensures.status)
 
 pub returns-in-Ok-clause-cut_line : goal.returns-in-Ok-clause-cut_line
 returns-in-Ok-clause-cut_line g c = λ five. inl refl
 
-pub returns-in-Err-clause-cut_line : goal.returns-in-Err-clause-cut_line
-returns-in-Err-clause-cut_line g c = λ five.
-    inr (begun c.in-Err.refusal (g.F.Files.bytes c.args.files.now c.args.name.now) _ c.args.name.now _ _
-    (λ bytes told same. c.in-Err.ensures.outside bytes told (ap (λ r. Err r) same))
-    (λ same. c.in-Err.ensures.cause (ap (λ r. Err r) same)) (c.refuse.ensures.cut five))
+pub returns-in-Ok-clause-status : goal.returns-in-Ok-clause-status
+returns-in-Ok-clause-status g c =
+    ⊎_elim (λ zero. inl zero) (λ five. inr (inr (inr (inl five)))) c.deliver.ensures.status
+
+pub returns-in-Ok-clause-one_fails : goal.returns-in-Ok-clause-one_fails
+returns-in-Ok-clause-one_fails g c = λ five. inr (refl, c.deliver.ensures.cause five)
+
+pub returns-in-Ok-clause-one_left : goal.returns-in-Ok-clause-one_left
+returns-in-Ok-clause-one_left g c = λ five. inr refl
+
+pub returns-in-Err-clause-status : goal.returns-in-Err-clause-status
+returns-in-Err-clause-status g c = failed_status c.in-Err.failure (number_of c.refuse.result) c.refuse.ensures.status
+
+pub returns-in-Err-clause-headline : goal.returns-in-Err-clause-headline
+returns-in-Err-clause-headline g c = λ zero.
+    absurd (failed_not_done c.in-Err.failure (number_of c.refuse.result) c.refuse.ensures.status zero)
+
+pub returns-in-Err-clause-notes_left : goal.returns-in-Err-clause-notes_left
+returns-in-Err-clause-notes_left g c = λ zero.
+    absurd (failed_not_done c.in-Err.failure (number_of c.refuse.result) c.refuse.ensures.status zero)
+
+pub returns-in-Err-clause-cut : goal.returns-in-Err-clause-cut
+returns-in-Err-clause-cut g c = λ five. inl refl
+
+pub returns-in-Err-clause-one_fails : goal.returns-in-Err-clause-one_fails
+returns-in-Err-clause-one_fails g c = λ five. inl (refl, c.refuse.ensures.cause five)
+
+pub returns-in-Err-clause-one_left : goal.returns-in-Err-clause-one_left
+returns-in-Err-clause-one_left g c = λ five. inl refl
 
 pub returns-in-Err-clause-steady : goal.returns-in-Err-clause-steady
 returns-in-Err-clause-steady g c = λ never four.
-    let same : c.in-Err.refusal ≡ ReadFault =
-    refused_four c.in-Err.refusal (number_of c.refuse.result) four c.refuse.ensures.status in
-    c.in-Err.ensures.steady never (ap (λ r. Err r) same)
+    let same : c.in-Err.failure ≡ failure.ReadFault =
+    failed_read c.in-Err.failure (number_of c.refuse.result) c.refuse.ensures.status four in
+    c.in-Err.ensures.steady never (ap (λ (f : Failure). Err f) same)

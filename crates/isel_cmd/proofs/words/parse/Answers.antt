@@ -13,7 +13,7 @@ returns c =
     record {
       spelled = four_words _ _ _ _ _ _ _ _ _ _ _ _ words c.as_str.ensures.value c.as_str-file.ensures.value
           c.as_str-2.ensures.value c.as_str-3.ensures.value
-          command flag c.in_ok-bound.ensures.some.0;
+          command flag c.in-Some.ensures.some.0;
       file = c.if-not-is_file_name.ensures.0 (search rules);
-      within = c.in_ok-bound.ensures.some.1;
+      within = c.in-Some.ensures.some.1;
     }

@@ -1,26 +1,18 @@
 use Rattle.std.proofs.Common.{List, ◌<◌, ◌≤◌, ◌*◌, ◌↔◌, length, sum_by, ap, sym, subst, ◌∙◌}
 use Rattle.std.specs.Prelude.{IsTrue, nat_le}
-use Rattle.std.specs.List.{list_all}
 use Rattle.bv_terms.specs.declared.value.Sort.{Sort}
 use Rattle.bv_terms.specs.Sorts.{width_of}
 use Rattle.isel_spec.specs.declared.definitions.Kind.{Kind}
 use Rattle.isel_spec.specs.Spec.{file}
 use Rattle.isel_spec.proofs.SpecLemmas.{IsSoundGoal_at}
-use Rattle.plain_search.specs.Extent.{is_value, CanSearch}
-use Rattle.plain_search.proofs.ExtentLemmas.{args_are, refused, no_search-memory, no_search-operations}
-use Rattle.plain_search.proofs.ExtentLemmas.{no_search-bits, search_decided}
+use Rattle.plain_search.specs.Extent.{CanSearch}
+use Rattle.plain_search.proofs.ExtentLemmas.{args_are, refused, no_search-memory, no_search-bits, search_decided}
 use Rattle.plain_search.proofs.extent.can_search.Goals as goal
 
-pub returns-then-not-are_inputs_values : goal.returns-then-not-are_inputs_values
-returns-then-not-are_inputs_values c = λ g there.
-    let args = args_are c.args.spec.now c.args.goal _ _ _ g c.goal.ensures.1 c.as_slice-args.ensures there in
-    refused (no_search-memory (file c.args.spec.now) g c.args.bound
-    (ap (list_all is_value) (sym args) ∙ sym c.are_inputs_values.ensures ∙ c.if-not-are_inputs_values.true))
-
-pub returns-then-not-do_operations_take_values : goal.returns-then-not-do_operations_take_values
-returns-then-not-do_operations_take_values c = λ g there.
-    refused (no_search-operations (file c.args.spec.now) g c.args.bound
-    (sym c.do_operations_take_values.ensures ∙ c.if-not-do_operations_take_values.true))
+pub returns-then-not-has_no_memory : goal.returns-then-not-has_no_memory
+returns-then-not-has_no_memory c = λ g there.
+    refused (no_search-memory (file c.args.spec.now) g c.args.bound c.has_no_memory.result
+    c.if-not-has_no_memory.true (c.has_no_memory.ensures g there))
 
 pub value_bits-requires : goal.value_bits-requires
 value_bits-requires c =
@@ -38,8 +30,7 @@ returns c = λ g there.
     let args = args_are c.args.spec.now c.args.goal _ _ _ g c.goal.ensures.1 c.as_slice-args.ensures there in
     let decided =
     search_decided (file c.args.spec.now) g c.args.bound c.most_attribute_bits.result
-    (ap (list_all is_value) (sym args) ∙ sym c.are_inputs_values.ensures ∙ c.if-not-are_inputs_values.false)
-    (sym c.do_operations_take_values.ensures ∙ c.if-not-do_operations_take_values.false)
+    ((c.has_no_memory.ensures g there).0 c.if-not-has_no_memory.false)
     (subst (λ n. n ≤ 12) (c.value_bits.ensures.value ∙ ap (sum_by width_of) args) c.if-value_bits-gt-MOST_BITS.false)
     (record { above = c.most_attribute_bits.ensures.above; reached = c.most_attribute_bits.ensures.reached }) in
     subst (λ n. IsTrue (nat_le (n * c.most_attribute_bits.result) 12) ↔ CanSearch (file c.args.spec.now) g c.args.bound)

@@ -1,5 +1,5 @@
 use Rattle.std.proofs.Common.{◌≡◌, ◌++◌, drop}
-use Rattle.plain_search.specs.Cases.{inputs_numbered}
+use Rattle.plain_search.specs.Inputs.{inputs_numbered}
 use Rattle.plain_search.proofs.inputs.inputs_of.Given as goal
 
 abbrev pub invariant-loop-sort : goal.invariant-loop-sort
