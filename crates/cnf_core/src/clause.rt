@@ -6,7 +6,7 @@ ghost use Rattle.cnf_core.specs.Clause.{opposite, lit_true, clause_true, assigne
 use collections::Seq;
 
 /// A variable, by its number from 0, or its negation.
-#[derive(Clone, Copy, Debug, PartialEq, Eq)]
+#[derive(Clone, Copy, Debug, PartialEq, Eq, Hash)]
 pub struct Lit {
     pub variable: usize,
     pub positive: bool,

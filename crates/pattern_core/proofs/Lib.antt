@@ -11,3 +11,4 @@ pub mod RenamingLemmas
 pub mod FormLemmas
 pub mod ForwardLemmas
 pub mod EvaluationLemmas
+pub mod KnownLemmas

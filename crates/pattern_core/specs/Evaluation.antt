@@ -8,6 +8,7 @@ use Rattle.isel_spec.specs.declared.definitions.GoalDef.{GoalDef}
 use Rattle.isel_spec.specs.declared.spec.Spec.{Spec}
 use Rattle.pattern_core.specs.declared.evaluation.Evaluation.{Evaluation}
 use Rattle.pattern_core.specs.Pattern.{Pairwise}
+use Rattle.pattern_core.specs.Known.{AreKnown}
 
 -- the nodes of the subterms of these results, and no others, each after its arguments
 pub record AreNodesBelow (table : Table) (results nodes : List TermId) : Type 0 where
@@ -24,7 +25,9 @@ abbrev pub AreGoalNodes : Spec → ℕ → List TermId → Type 0
 AreGoalNodes s place nodes =
     (name : List ℕ) (d : GoalDef) → slice_get s.goals place ≡ Some (name, d) → AreNodesBelow s.terms d.results nodes
 
--- the evaluation is one of the file: of its operations, with a place for each node of its table
+-- the evaluation is one of the file: of its operations, with results that are theirs, and with a place for each node of
+-- its table
 pub record IsEvaluationOf (s : Spec) (e : Evaluation) : Type 0 where
   pub operations : HaveNodes s.terms s.ops e.operations
+  pub known : AreKnown s e.known.items
   pub room : length s.terms.nodes ≤ length e.room.items

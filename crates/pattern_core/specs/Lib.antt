@@ -5,4 +5,5 @@ pub mod Order
 pub mod Library
 pub mod Meaning
 pub mod Renaming
+pub mod Known
 pub mod Evaluation

@@ -1,19 +1,22 @@
 //! The values that patterns of a file give, where many are evaluated at many inputs: the nodes below the
-//! operations' results are found once, and room for their values is made once.
+//! operations' results are found once, room for their values is made once, and results at small inputs are kept.
 
-ghost use Rattle.std.specs.Prelude.{◌≡◌, ◌<◌, ◌≤◌, [], length, map, Some, slice_get, IfOk, All};
+ghost use Rattle.std.specs.Prelude.{◌≡◌, ℕ, ◌<◌, ◌≤◌, ◌^◌, List, [], length, map, Some, slice_get, IfOk, All};
 ghost use Rattle.bv_terms.specs.declared.op.TermId.{TermId};
 ghost use Rattle.bv_terms.specs.Term.{value};
 ghost use Rattle.bv_terms.specs.Sorts.{HaveSorts};
 ghost use Rattle.bv_terms.specs.WellSorted.{InputsFit};
 ghost use Rattle.bv_terms.specs.Table.{term_at};
-ghost use Rattle.isel_spec.specs.File.{Goal};
+ghost use Rattle.isel_spec.specs.declared.definitions.OpDef.{OpDef};
+ghost use Rattle.isel_spec.specs.File.{Goal, scope};
 ghost use Rattle.isel_spec.specs.Spec.{file};
 ghost use Rattle.pattern_core.specs.Rule.{source_value, op_results, outs_from, pattern_results, goal_results};
 ghost use Rattle.pattern_core.specs.Pattern.{AreFitting, IsWellFormed};
 ghost use Rattle.pattern_core.specs.Meaning.{IsNodeGiven};
+ghost use Rattle.pattern_core.specs.Known.{results_at, AreKnown};
 ghost use Rattle.pattern_core.specs.Evaluation.{AreNodesBelow, HaveNodes, AreGoalNodes, IsEvaluationOf};
 
+use crate::known::{keep, kept, nothing_known, place_of};
 use crate::meaning::{node_inputs, source_values, values_at};
 use crate::pattern::{Node, Pattern};
 use bv_terms::{Env, TermId, Terms, Value};
@@ -21,11 +24,13 @@ use collections::Seq;
 use isel_spec::Spec;
 use std::alloc::{AllocError, Global};
 
-/// What evaluating patterns of a file needs: for each operation the nodes of its results' subterms, and
-/// room for their values. `IsEvaluationOf` of `specs/Evaluation` says of which file it is.
+/// What evaluating patterns of a file needs: for each operation the nodes of its results' subterms, its results so
+/// far at inputs with small numbers, and room for values. `IsEvaluationOf` of `specs/Evaluation` says of which file it
+/// is.
 #[derive(Debug, Drop)]
 pub struct Evaluation {
     operations: Seq<Seq<TermId>>,
+    known: Vec<Option<Seq<Value>>>,
     /// A place for each node of the file's table.
     room: Vec<Value>,
 }
@@ -36,8 +41,13 @@ impl Evaluation {
         ensures { IfOk result (IsEvaluationOf spec.now) }
     {
         let operations = all_operation_nodes(alloc, spec)?;
+        let known = nothing_known(alloc, spec.ops.len())?;
         let room = vec![in alloc; Value::Bool(false); spec.terms.len()]?;
-        Ok(Evaluation { operations, room })
+        Ok(Evaluation {
+            operations,
+            known,
+            room,
+        })
     }
 
     /// The results of a pattern that is well-formed for the goal, where the goal's arguments have these
@@ -61,8 +71,9 @@ impl Evaluation {
     {
         let nodes = pattern.nodes.as_slice();
         let operations = self.operations.as_slice();
+        let known = &mut self.known;
         let room = &mut self.room;
-        let outs = all_results(alloc, spec, goal, operations, nodes, inputs, room)?;
+        let outs = all_results(alloc, spec, goal, operations, nodes, inputs, known, room)?;
         let sources = pattern.results.as_slice();
         source_values(alloc, inputs, outs.as_slice(), sources)
     }
@@ -163,6 +174,61 @@ fn goal_values(
     values_along(alloc, &spec.terms, nodes, results, &env, room)
 }
 
+/// The results of an operation at values of its inputs, computed.
+fn computed_results(
+    alloc: Global,
+    spec: &Spec,
+    operations: &[Seq<TermId>],
+    operation: usize,
+    env: &Env,
+    room: &mut [Value],
+) -> Result<Vec<Value>, AllocError>
+    requires operations { HaveNodes spec.now.terms spec.now.ops operations.now }
+    requires there { operation < length spec.now.ops }
+    requires sorted { (name : List ℕ) (d : OpDef) → slice_get spec.now.ops operation ≡ Some (name, d)
+        → HaveSorts (scope d) env.now.values }
+    requires room { length spec.now.terms.nodes ≤ length room.old }
+    ensures { IfOk result (λ v. (name : List ℕ) (d : OpDef) → slice_get spec.now.ops operation ≡ Some (name, d)
+        → v.items ≡ results_at spec.now.terms d env.now.values) }
+{
+    let nodes = operations[operation].as_slice();
+    let definition = spec.op(operation);
+    let results = definition.results.as_slice();
+    values_along(alloc, &spec.terms, nodes, results, env, room)
+}
+
+/// The results of an operation at values of its inputs, which are kept where they have a place.
+fn operation_results(
+    alloc: Global,
+    spec: &Spec,
+    operations: &[Seq<TermId>],
+    operation: usize,
+    env: &Env,
+    known: &mut [Option<Seq<Value>>],
+    room: &mut [Value],
+) -> Result<Vec<Value>, AllocError>
+    requires operations { HaveNodes spec.now.terms spec.now.ops operations.now }
+    requires there { operation < length spec.now.ops }
+    requires few { operation < 2 ^ 16 }
+    requires sorted { (name : List ℕ) (d : OpDef) → slice_get spec.now.ops operation ≡ Some (name, d)
+        → HaveSorts (scope d) env.now.values }
+    requires known { AreKnown spec.now known.old }
+    requires room { length spec.now.terms.nodes ≤ length room.old }
+    ensures known { AreKnown spec.now known.new }
+    ensures results { IfOk result (λ v. (name : List ℕ) (d : OpDef) → slice_get spec.now.ops operation ≡ Some (name, d)
+        → v.items ≡ results_at spec.now.terms d env.now.values) }
+{
+    let Some(place) = place_of(operation, env.values.as_slice()) else {
+        return computed_results(alloc, spec, operations, operation, env, room);
+    };
+    if let Some(results) = kept(alloc, known, place)? {
+        return Ok(results);
+    }
+    let values = computed_results(alloc, spec, operations, operation, env, room)?;
+    keep(alloc, known, place, &values)?;
+    Ok(values)
+}
+
 /// The results of a node, where the earlier nodes have these.
 fn node_results(
     alloc: Global,
@@ -171,20 +237,21 @@ fn node_results(
     node: &Node,
     inputs: &[Value],
     outs: &[Seq<Value>],
+    known: &mut [Option<Seq<Value>>],
     room: &mut [Value],
 ) -> Result<Vec<Value>, AllocError>
     requires operations { HaveNodes spec.now.terms spec.now.ops operations.now }
     requires given { IsNodeGiven spec.now node.now inputs.now outs.now }
+    requires known { AreKnown spec.now known.old }
     requires room { length spec.now.terms.nodes ≤ length room.old }
-    ensures { IfOk result (λ v. v.items ≡ op_results (slice_get (file spec.now).ops node.now.op) node.now.attrs
+    ensures known { AreKnown spec.now known.new }
+    ensures values { IfOk result (λ v. v.items ≡ op_results (slice_get (file spec.now).ops node.now.op) node.now.attrs
         (map (source_value inputs.now outs.now) node.now.args)) }
 {
     let place = usize::from(node.op);
     let operation = spec.op(place);
     let env = node_inputs(alloc, operation, node, inputs, outs)?;
-    let results = operation.results.as_slice();
-    let nodes = operations[place].as_slice();
-    values_along(alloc, &spec.terms, nodes, results, &env, room)
+    operation_results(alloc, spec, operations, place, &env, known, room)
 }
 
 /// The results of each node of a pattern for the goal.
@@ -195,6 +262,7 @@ fn all_results(
     operations: &[Seq<TermId>],
     nodes: &[Node],
     inputs: &[Value],
+    known: &mut [Option<Seq<Value>>],
     room: &mut [Value],
 ) -> Result<Vec<Seq<Value>>, AllocError>
     requires operations { HaveNodes spec.now.terms spec.now.ops operations.now }
@@ -202,13 +270,24 @@ fn all_results(
     requires fits { (g : Goal) → slice_get (file spec.now).goals goal ≡ Some g
         → AreFitting (file spec.now) g nodes.now }
     requires inputs { (g : Goal) → slice_get (file spec.now).goals goal ≡ Some g → HaveSorts g.args inputs.now }
+    requires known { AreKnown spec.now known.old }
     requires room { length spec.now.terms.nodes ≤ length room.old }
-    ensures { IfOk result (λ outs. outs.items ≡ outs_from (file spec.now) inputs.now [] nodes.now) }
+    ensures known { AreKnown spec.now known.new }
+    ensures results { IfOk result (λ outs. outs.items ≡ outs_from (file spec.now) inputs.now [] nodes.now) }
 {
     let mut outs: Vec<Seq<Value>> = Vec::with_capacity(alloc, nodes.len())?;
     for place in 0..nodes.len() {
         let node = &nodes[place];
-        let found = node_results(alloc, spec, operations, node, inputs, outs.as_slice(), room)?;
+        let found = node_results(
+            alloc,
+            spec,
+            operations,
+            node,
+            inputs,
+            outs.as_slice(),
+            known,
+            room,
+        )?;
         outs.push(Seq::from_vec(found))?;
     }
     Ok(outs)

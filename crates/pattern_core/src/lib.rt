@@ -8,6 +8,7 @@
 //! - `meaning`: `eval` and `eval_goal`, the values that patterns and goals give, and `rules_are_plain`: where
 //!   there is no memory, a rule is one over values.
 //! - `evaluation`: `Evaluation`, what the values of many patterns of a file need, found once; and `goal_nodes`.
+//! - `known`: results of operations that are kept, so that they are computed once.
 //! - `comparison`: `order`, the order of patterns, and `order_is_total`, its law.
 //!
 //! Patterns as programs over components: Gulwani, Jha, Tiwari, Venkatesan, PLDI 2011; rules, and the
@@ -16,6 +17,7 @@
 
 mod comparison;
 mod evaluation;
+mod known;
 mod meaning;
 mod pattern;
 mod renaming;

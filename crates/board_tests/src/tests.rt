@@ -1,0 +1,6 @@
+//! Tests, by what they are about.
+
+mod boards;
+mod machine;
+mod notes;
+mod waiting;

@@ -1,0 +1,18 @@
+use Rattle.std.proofs.lemmas.Result.{on_ok_weaker}
+use Rattle.cnf_core.specs.Clause.{lit_true}
+use Rattle.circuit.proofs.ClauseLemmas.{adds-then, adds-as, opposite-true, and-clauses}
+use Rattle.circuit.proofs.clauses.define_and.Goals as goal
+
+pub returns : goal.returns
+returns c =
+    on_ok_weaker c.push-3.result
+    (λ last. adds-as (adds-then (adds-then c.in_ok-push.ensures c.in_ok-push-2.ensures) last)
+    (λ v.
+    rw (
+      opposite-true _ _ c.opposite.ensures v,
+      opposite-true _ _ c.opposite-2.ensures v,
+      opposite-true _ _ c.opposite-3.ensures v,
+      opposite-true _ _ c.opposite-4.ensures v,
+    )
+    (and-clauses (lit_true v c.args.output) (lit_true v c.args.a) (lit_true v c.args.b))))
+    c.push-3.ensures

@@ -1,0 +1,4 @@
+pub mod Signal
+pub mod Gate
+pub mod Added
+pub mod Pairing

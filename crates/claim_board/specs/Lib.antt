@@ -1,0 +1,9 @@
+pub mod Names
+pub mod Views
+pub mod Rule
+pub mod Steps
+pub mod Words
+pub mod Passes
+pub mod Draws
+pub mod Entries
+pub mod Blanks

@@ -1,0 +1,11 @@
+use Rattle.std.proofs.Common.{nat_lt, drop}
+use Rattle.circuit.specs.Gate.{Grows}
+use Rattle.word_circuits.specs.Word.{word_number}
+use Rattle.word_circuits.proofs.LoopLemmas.{IsCarried}
+use Rattle.word_circuits.proofs.SumLemmas.{less-left}
+use Rattle.word_circuits.proofs.sums.is_less.Given as goal
+
+abbrev pub invariant-loop-place : goal.invariant-loop-place
+invariant-loop-place l = Grows l.fn.circuit l.circuit × IsCarried l.circuit
+    (less-left (drop l.place l.left) (drop l.place l.right))
+    (λ v. nat_lt (word_number v l.left) (word_number v l.right)) l.borrow
