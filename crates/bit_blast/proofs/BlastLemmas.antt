@@ -157,9 +157,10 @@ asserted-right b table right f there n words moves covered = record {
         (λ same. covered number k (subst (λ u. IsBitOf u number k) (sym same) says.2))
         (Contains-push_cases old_terms t says.0 says.1)
 
-pub moves-continue : (table : Table) (t : Term) (f : List Value → Bool) (old new : Wiring)
+pub moves-continue : (table : Table) (t : Term) (f : List Value → Bool) (old new : Wiring) → AreWords table old
     → Moves table t f old new → Continues old.netlist new.netlist
-moves-continue table t f old new moves = record {
+moves-continue table t f old new are moves = record {
+  variables = omega (arith, are.netlist.variables, moves.words.netlist.variables, moves.longer);
   more_clauses = moves.more_clauses;
   clauses = moves.clauses;
   more_bits = moves.more_bits;

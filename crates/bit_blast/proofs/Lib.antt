@@ -12,4 +12,4 @@ mod TermWordLemmas
 mod OperationLemmas
 mod VisitLemmas
 mod AssertLemmas
-mod FormulaLemmas
+pub mod FormulaLemmas

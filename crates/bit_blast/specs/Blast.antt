@@ -1,5 +1,5 @@
 -- Formulas over a table of terms, and the circuit that asserts them.
-use Rattle.std.specs.Prelude.{◌≡◌, ◌<◌, ◌↔◌, ℕ, List, ◌++◌, Bool, All, Contains, length, map, IsTrue}
+use Rattle.std.specs.Prelude.{◌≡◌, ◌<◌, ◌≤◌, ◌↔◌, ℕ, List, ◌++◌, Bool, All, Contains, length, map, IsTrue}
 use Rattle.std.specs.List.{list_all}
 use Rattle.bv_terms.specs.declared.op.TermId.{TermId}
 use Rattle.bv_terms.specs.declared.value.Value.{Value}
@@ -31,8 +31,9 @@ pub record IsRight (b : Blast) (table : Table) : Type 0 where
   pub listed : (number k : ℕ) → IsListed b.netlist.bits number k
       ↔ ((t : Term) × Contains (map (term_at table) b.formulas) t × IsBitOf t number k)
 
--- the clauses and the listed bits of the old one are the first of the new one
+-- the clauses and the listed bits of the old one are the first of the new one, which has no fewer variables
 pub record Continues (old new : Netlist) : Type 0 where
+  pub variables : old.formula.variables ≤ new.formula.variables
   pub more_clauses : List Clause
   pub clauses : new.formula.clauses ≡ old.formula.clauses ++ more_clauses
   pub more_bits : List (ℕ × ℕ × ℕ)

@@ -43,6 +43,13 @@ impl Blaster {
         })
     }
 
+    /// The formulas that were asserted, in order.
+    pub fn formulas(&self) -> &[TermId]
+        ensures { result.now ≡ self.now.formulas }
+    {
+        &self.formulas
+    }
+
     /// The clauses, and the variables of the inputs' bits. What is right over a table is right over every table that
     /// extends it.
     pub fn blasted(&self) -> &Blasted

@@ -1,10 +1,3 @@
-pub mod TrailState
 pub mod StatusLemmas
-pub mod LeadsLemmas
-pub mod AnalysisLemmas
-pub mod MarkLemmas
-pub mod DecisionLemmas
-pub mod Places
 pub mod PropagationLemmas
-pub mod TrailLemmas
-pub mod SearchLemmas
+pub mod ReadyLemmas

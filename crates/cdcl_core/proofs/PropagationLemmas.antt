@@ -9,10 +9,11 @@ use Rattle.std.proofs.lemmas.List.Elements.{All-more}
 use Rattle.cnf_core.specs.declared.clause.Lit.{Lit}
 use Rattle.cnf_core.specs.declared.clause.Clause.{Clause}
 use Rattle.cnf_core.specs.Clause.{contains}
+use Rattle.cnf_core.specs.Resolution.{clause}
 use Rattle.cnf_core.proofs.Sets.{contains-head}
 use Rattle.cdcl_core.specs.Propagation.{AreBlockers}
-use Rattle.cdcl_core.specs.Trail.{Trail, IsTrail, IsPropagated, ArePropagated, AreReasons, ExtendsTrail, Forces}
-use Rattle.cdcl_core.proofs.TrailLemmas.{forced, ExtendsTrail-itself, ExtendsTrail-trans, AreReasons-forced}
+use Rattle.cdcl_base.specs.Trail.{Trail, IsTrail, IsPropagated, ArePropagated, AreReasons, ExtendsTrail, Forces}
+use Rattle.cdcl_base.proofs.TrailLemmas.{forced, ExtendsTrail-itself, ExtendsTrail-trans, AreReasons-forced}
 
 -- a pass after the first clauses
 pub record IsPropagating (cs : List Clause) (old now : Trail) (number : ℕ) (changed : Bool) : Type 0 where
@@ -110,12 +111,17 @@ head-stands : (c : List Lit) (d : Lit) → c ≢ [] → contains c (get_or c 0 d
 head-stands [] d h = absurd (h refl)
 head-stands (x ∷ xs) d h = contains-head x xs
 
+pub has-first : (c : List Lit) → c ≢ [] → 0 < length c
+has-first [] h = absurd (h refl)
+has-first (x ∷ xs) h = omega arith
+
 -- the first literal of the next clause
-pub blockers-next : (cs : List Clause) (blockers : List Lit) (k : ℕ) (c : Clause) (lits : List Lit) (d : Lit) →
-    AreBlockers (take k cs) blockers → k < length cs → c ≡ get_or cs k c → lits ≡ c.lits → c.lits ≢ [] →
-    AreBlockers (take (k + 1) cs) (blockers ++ get_or lits 0 d ∷ [])
-blockers-next cs blockers k c lits d h within at same filled =
-    subst (λ xs. AreBlockers xs (blockers ++ get_or lits 0 d ∷ []))
-    (sym (take_more cs k c within ∙ ap (λ x. take k cs ++ x ∷ []) (sym at)))
-    (blockers-push (take k cs) blockers c (get_or lits 0 d) h (ap (λ xs. contains c.lits (get_or xs 0 d)) same
-    ∙ head-stands c.lits d filled))
+pub blockers-next : (cs : List Clause) (blockers : List Lit) (k : ℕ) (c : List Lit) (l : Lit) →
+    AreBlockers (take k cs) blockers → slice_get cs k ≡ Some (clause c) → l ≡ get_or c 0 l → c ≢ [] →
+    AreBlockers (take (k + 1) cs) (blockers ++ l ∷ [])
+blockers-next cs blockers k c l h at first filled =
+    subst (λ xs. AreBlockers xs (blockers ++ l ∷ []))
+    (sym
+    (take_more cs k (clause c) (slice_get_within cs k (clause c) at)
+    ∙ ap (λ x. take k cs ++ x ∷ []) (get_or_from_slice_get cs k (clause c) (clause c) at)))
+    (blockers-push (take k cs) blockers (clause c) l h (ap (contains c) first ∙ head-stands c l filled))

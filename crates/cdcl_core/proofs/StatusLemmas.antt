@@ -7,7 +7,7 @@ use Rattle.cnf_core.specs.Clause.{opposite, same_lit, contains, IsSubset}
 use Rattle.cnf_core.proofs.Sets.{same_lit-true, contains-one, contains-head, contains-tail}
 use Rattle.cdcl_core.specs.declared.propagation.ClauseStatus.{ClauseStatus}
 use Rattle.cdcl_core.specs.declared.propagation.ClauseStatus.TheVariants.{Satisfied, Unresolved, Unit, Falsified}
-use Rattle.cdcl_core.specs.Trail.{IsUnassigned, IsFalsified, IsUnresolved, Forces}
+use Rattle.cdcl_base.specs.Trail.{IsUnassigned, IsFalsified, IsUnresolved, Forces}
 use Rattle.cdcl_core.specs.ClauseStatus.{IsStatus, clause_status}
 use Rattle.list_lemmas.proofs.Bools.{or-cases, true-or-false}
 

@@ -4,7 +4,7 @@ use Rattle.cnf_core.specs.declared.clause.Lit.{Lit}
 use Rattle.cnf_core.specs.Clause.{opposite, same_lit, contains}
 use Rattle.cdcl_core.specs.declared.propagation.ClauseStatus.{ClauseStatus}
 use Rattle.cdcl_core.specs.declared.propagation.ClauseStatus.TheVariants.{Satisfied, Unresolved, Unit, Falsified}
-use Rattle.cdcl_core.specs.Trail.{IsUnassigned, IsFalsified, IsUnresolved, Forces}
+use Rattle.cdcl_base.specs.Trail.{IsUnassigned, IsFalsified, IsUnresolved, Forces}
 
 -- what each status says of the clause
 abbrev pub IsStatus : List Lit → List Lit → ClauseStatus → Type 0

@@ -5,7 +5,7 @@ use Rattle.cnf_core.specs.declared.clause.Clause.{Clause}
 use Rattle.cnf_core.specs.Clause.{contains}
 use Rattle.cdcl_core.specs.declared.propagation.Progress.{Progress}
 use Rattle.cdcl_core.specs.declared.propagation.Progress.TheVariants.{Conflict, Assigned, Fixpoint}
-use Rattle.cdcl_core.specs.Trail.{Trail, ArePropagated, IsConflict}
+use Rattle.cdcl_base.specs.Trail.{Trail, ArePropagated, IsConflict}
 
 -- a literal of each clause
 abbrev pub AreBlockers : List Clause → List Lit → Type 0

@@ -3,9 +3,6 @@
 //!
 //! - `search`: the loop, and what is answered ([`solve`], [`Answer`])
 //! - `propagation`: unit propagation, and a blocker for each clause
-//! - `decision`: the scores of the variables, and which is decided next
-//! - `analysis`: conflict analysis up to the first unique implication point
-//! - `trail`: the true literals with their reasons and levels
 //!
 //! It finds a model, or a log of resolution that refutes the formula, or it says that the fuel is spent; each unit of
 //! fuel is one learnt clause. Sources: J. Marques-Silva, K. Sakallah, GRASP, 1999; M. Moskewicz, C. Madigan, Y. Zhao,
@@ -13,10 +10,8 @@
 //! used; the resolution traces of zChaff and TraceCheck for the log.
 #![tactic(auto)]
 
-mod analysis;
-mod decision;
 mod propagation;
 mod search;
-mod trail;
 
-pub use search::{Answer, solve};
+pub use cdcl_base::Answer;
+pub use search::solve;

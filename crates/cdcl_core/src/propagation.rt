@@ -3,49 +3,44 @@
 
 ghost use Rattle.std.specs.Prelude.{◌≡◌, true, None, All, IfOk, OnOk, IfSome, IfNone};
 ghost use Rattle.cnf_core.specs.Clause.{contains, IsOver};
-ghost use Rattle.cdcl_core.specs.Trail.{ArePropagated, AreReasons, ExtendsTrail, IsConflict};
+ghost use Rattle.cdcl_base.specs.Trail.{ArePropagated, AreReasons, ExtendsTrail, IsConflict};
 ghost use Rattle.cdcl_core.specs.ClauseStatus.{IsStatus, clause_status};
 ghost use Rattle.cdcl_core.specs.Propagation.{AreBlockers, IsProgress};
 
-use crate::trail::Trail;
-use cnf_core::{Clause, Lit};
+use cdcl_base::{Clauses, PackedLit, Trail};
 use std::alloc::AllocError;
 
 /// The status of a clause under the true literals.
 #[derive(Clone, Copy)]
 pub(crate) enum ClauseStatus {
     /// This literal is true.
-    Satisfied(Lit),
+    Satisfied(PackedLit),
     /// Two literals are not false.
     Unresolved,
     /// All literals but this one are false, and it has no value.
-    Unit(Lit),
+    Unit(PackedLit),
     /// All literals are false.
     Falsified,
 }
 
 /// The status of a clause.
-pub(crate) fn status_of(trail: &Trail, lits: &[Lit]) -> ClauseStatus
+pub(crate) fn status_of(trail: &Trail, lits: &[PackedLit]) -> ClauseStatus
     requires { IsOver trail.now.variables lits.now }
     ensures exact { result ≡ clause_status trail.now.lits lits.now None }
     ensures status { IsStatus trail.now.lits lits.now result }
 {
     let mut only = None;
     for lit in lits {
-        match trail.value(lit.variable) {
-            Some(value) => {
-                if value == lit.positive {
-                    return ClauseStatus::Satisfied(*lit);
+        if trail.is_true(*lit) {
+            return ClauseStatus::Satisfied(*lit);
+        }
+        if !trail.is_false(*lit) {
+            if let Some(first) = only {
+                if first != *lit {
+                    return ClauseStatus::Unresolved;
                 }
             }
-            None => {
-                if let Some(first) = only {
-                    if first != *lit {
-                        return ClauseStatus::Unresolved;
-                    }
-                }
-                only = Some(*lit);
-            }
+            only = Some(*lit);
         }
     }
     match only {
@@ -55,15 +50,15 @@ pub(crate) fn status_of(trail: &Trail, lits: &[Lit]) -> ClauseStatus
 }
 
 /// The status of a clause, whose blocker is looked at first.
-fn status_by_blocker(trail: &Trail, clause: &Clause, blocker: Lit) -> ClauseStatus
-    requires over { IsOver trail.now.variables clause.now.lits }
-    requires blocker { contains clause.now.lits blocker ≡ true }
-    ensures { IsStatus trail.now.lits clause.now.lits result }
+fn status_by_blocker(trail: &Trail, lits: &[PackedLit], blocker: PackedLit) -> ClauseStatus
+    requires over { IsOver trail.now.variables lits.now }
+    requires blocker { contains lits.now blocker ≡ true }
+    ensures { IsStatus trail.now.lits lits.now result }
 {
     if trail.is_true(blocker) {
         return ClauseStatus::Satisfied(blocker);
     }
-    status_of(trail, clause.lits.as_slice())
+    status_of(trail, lits)
 }
 
 /// What one pass over all clauses came to.
@@ -80,8 +75,8 @@ enum Progress {
 /// Makes one pass over the clauses, and assigns the literals of unit clauses.
 fn propagate_once(
     trail: &mut Trail,
-    clauses: &[Clause],
-    blockers: &mut Vec<Lit>,
+    clauses: &Clauses,
+    blockers: &mut Vec<PackedLit>,
 ) -> Result<Progress, AllocError>
     requires over { All (λ c. IsOver trail.old.variables c.lits) clauses.now }
     requires reasons { AreReasons clauses.now trail.old }
@@ -93,7 +88,7 @@ fn propagate_once(
 {
     let mut changed = false;
     for number in 0..clauses.len() {
-        match status_by_blocker(trail, &clauses[number], blockers[number]) {
+        match status_by_blocker(trail, clauses.lits(number), blockers[number]) {
             ClauseStatus::Satisfied(lit) => blockers[number] = lit,
             ClauseStatus::Unresolved => {}
             ClauseStatus::Unit(lit) => {
@@ -113,8 +108,8 @@ fn propagate_once(
 /// The number of a clause that unit propagation falsifies; none where it comes to a fixpoint.
 pub(crate) fn propagate(
     trail: &mut Trail,
-    clauses: &[Clause],
-    blockers: &mut Vec<Lit>,
+    clauses: &Clauses,
+    blockers: &mut Vec<PackedLit>,
 ) -> Result<Option<usize>, AllocError>
     requires over { All (λ c. IsOver trail.old.variables c.lits) clauses.now }
     requires reasons { AreReasons clauses.now trail.old }

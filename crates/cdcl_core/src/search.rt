@@ -1,46 +1,34 @@
 //! The search: propagation, decisions, and a clause learnt from each conflict. Before each decision on the trail every
 //! clause was propagated, and each true literal but the decisions has its reason.
 
-ghost use Rattle.std.specs.Prelude.{if◌then◌else◌, ◌≡◌, ◌≢◌, ℕ, List, ◌+◌, ◌-◌, ◌^◌, ◌<◌, ◌≤◌, ◌++◌, ◌∷◌, [], true};
+ghost use Rattle.std.specs.Prelude.{◌≡◌, ◌≢◌, ℕ, List, ◌+◌, ◌-◌, ◌^◌, ◌<◌, ◌≤◌, ◌++◌, ◌∷◌, [], true};
 ghost use Rattle.std.specs.Prelude.{length, slice_get, Some, None, All, Contains, IfOk, OnOk, IfSome, IfNone};
 ghost use Rattle.cnf_core.specs.declared.clause.Clause.{Clause};
 ghost use Rattle.cnf_core.specs.Clause.{contains, assigned, is_model, IsOver, HasNoModel};
 ghost use Rattle.cnf_core.specs.Resolution.{clause, IsAccepted, AreNewClauses};
-ghost use Rattle.cdcl_core.specs.Trail.{IsTrail, IsUnassigned, ArePropagated, AreReasons, ArePropagatedBefore};
-ghost use Rattle.cdcl_core.specs.Trail.{AreAllAssigned, IsConflict};
-ghost use Rattle.cdcl_core.specs.Analysis.{IsAsserting};
-ghost use Rattle.cdcl_core.specs.Scores.{score, raised};
+ghost use Rattle.cdcl_base.specs.Trail.{IsTrail, IsUnassigned, ArePropagated, AreReasons, ArePropagatedBefore};
+ghost use Rattle.cdcl_base.specs.Trail.{AreAllAssigned, IsConflict};
+ghost use Rattle.cdcl_base.specs.Analysis.{IsAsserting};
 ghost use Rattle.cdcl_core.specs.Propagation.{AreBlockers};
-ghost use Rattle.cdcl_core.specs.Search.{IsReady, IsLogOf};
-ghost use Rattle.cdcl_core.specs.Answer.{OnModel, OnRefuted, OnSpent, OnLog};
+ghost use Rattle.cdcl_core.specs.Search.{IsReady};
+ghost use Rattle.cdcl_base.specs.Log.{IsLogOf};
+ghost use Rattle.cdcl_base.specs.Answer.{OnModel, OnRefuted, OnSpent, OnLog};
 
-use crate::analysis;
-use crate::decision::Scores;
 use crate::propagation::propagate;
-use crate::trail::Trail;
+use cdcl_base::{Analyzer, Answer, Clauses, PackedLit, Scores, Trail, refute};
 use cnf_core::{Clause, Cnf, Fuel, Lit, Log};
 use collections::Seq;
 use std::alloc::{AllocError, Global};
-
-/// What a solver found.
-#[derive(Debug, Drop)]
-pub enum Answer {
-    /// A value for each variable; together they make every clause true.
-    Model(Seq<bool>),
-    /// An accepted log: there is no model.
-    Refuted(Log),
-    /// The fuel was spent on the chains of this log.
-    Spent(Log),
-}
 
 /// The state of a search: the clauses, those of the formula and then the learnt ones, a blocker for each, and the
 /// chains of the learnt ones.
 #[derive(Drop)]
 pub(crate) struct Search {
-    clauses: Vec<Clause>,
-    blockers: Vec<Lit>,
+    clauses: Clauses,
+    blockers: Vec<PackedLit>,
     trail: Trail,
     scores: Scores,
+    analyzer: Analyzer,
     log: Log,
 }
 
@@ -57,28 +45,26 @@ fn has_empty(clauses: &[Clause]) -> bool
     false
 }
 
-/// A copy of the clauses.
-fn copied(alloc: Global, clauses: &[Clause]) -> Result<Vec<Clause>, AllocError>
-    ensures { IfOk result (λ copies. copies.items ≡ clauses.now) }
+/// The clauses in one array.
+fn packed(alloc: Global, clauses: &[Clause]) -> Result<Clauses, AllocError>
+    requires { All (λ c. IsOver (2 ^ 31) c.lits) clauses.now }
+    ensures { IfOk result (λ packed. packed ≡ clauses.now) }
 {
-    let mut copies = Vec::with_capacity(alloc, clauses.len())?;
+    let mut packed = Clauses::new(alloc);
     for clause in clauses {
-        let lits = Vec::from_slice(alloc, clause.lits.as_slice())?;
-        copies.push(Clause {
-            lits: Seq::from_vec(lits),
-        })?;
+        packed.push_unpacked(clause.lits.as_slice())?;
     }
-    Ok(copies)
+    Ok(packed)
 }
 
 /// The first literal of each clause.
-fn first_lits(alloc: Global, clauses: &[Clause]) -> Result<Vec<Lit>, AllocError>
+fn first_lits(alloc: Global, clauses: &Clauses) -> Result<Vec<PackedLit>, AllocError>
     requires { All (λ c. c.lits ≢ []) clauses.now }
     ensures { IfOk result (λ blockers. AreBlockers clauses.now blockers.items) }
 {
     let mut blockers = Vec::with_capacity(alloc, clauses.len())?;
-    for clause in clauses {
-        blockers.push(clause.lits.as_slice()[0])?;
+    for number in 0..clauses.len() {
+        blockers.push(clauses.lits(number)[0])?;
     }
     Ok(blockers)
 }
@@ -87,8 +73,8 @@ fn first_lits(alloc: Global, clauses: &[Clause]) -> Result<Vec<Lit>, AllocError>
 /// no clause is falsified.
 fn next_conflict(
     trail: &mut Trail,
-    clauses: &[Clause],
-    blockers: &mut Vec<Lit>,
+    clauses: &Clauses,
+    blockers: &mut Vec<PackedLit>,
     scores: &Scores,
 ) -> Result<Option<usize>, AllocError>
     requires trail { IsTrail trail.old }
@@ -126,10 +112,10 @@ fn values_of(alloc: Global, trail: &Trail) -> Result<Vec<bool>, AllocError>
 {
     let mut values = Vec::with_capacity(alloc, trail.variables())?;
     for variable in 0..trail.variables() {
-        values.push(trail.is_true(Lit {
+        values.push(trail.is_true(PackedLit::new(Lit {
             variable,
             positive: true,
-        }))?;
+        })))?;
     }
     Ok(values)
 }
@@ -138,9 +124,9 @@ fn values_of(alloc: Global, trail: &Trail) -> Result<Vec<bool>, AllocError>
 /// forces.
 fn backjump(
     trail: &mut Trail,
-    clauses: &[Clause],
+    clauses: &Clauses,
     keep: usize,
-    lit: Lit,
+    lit: PackedLit,
     level_start: usize,
 ) -> Result<(), AllocError>
     requires level_start { slice_get trail.old.level_starts (length trail.old.level_starts - 1) ≡ Some level_start }
@@ -157,20 +143,6 @@ fn backjump(
     trail.assign(lit, clauses.len() - 1)
 }
 
-/// Raises the scores of the marked variables.
-fn bump_all(scores: &mut Scores, marks: &[bool])
-    requires { length marks.now ≡ length scores.old.scores }
-    ensures length { length scores.new.scores ≡ length scores.old.scores }
-    ensures scores { (x : ℕ) → score scores.new.scores x ≡
-        if assigned marks.now x then raised scores.old.step (score scores.old.scores x) else score scores.old.scores x }
-{
-    for variable in 0..marks.len() {
-        if marks[variable] {
-            scores.bump(variable);
-        }
-    }
-}
-
 impl Search {
     /// A search over the clauses of a formula, none of which is empty.
     fn new(alloc: Global, cnf: &Cnf) -> Result<Search, AllocError>
@@ -178,14 +150,15 @@ impl Search {
         ensures ready { IfOk result IsReady }
         ensures trail { IfOk result (λ s. IsTrail s.trail) }
         ensures variables { IfOk result (λ s. s.trail.variables ≡ cnf.now.variables) }
-        ensures log { IfOk result (λ s. IsLogOf cnf.now.clauses s.log.chains s.clauses.items) }
+        ensures log { IfOk result (λ s. IsLogOf cnf.now.clauses s.log.chains s.clauses) }
         ensures empty { IfOk result (λ s. s.log.chains ≡ []) }
     {
-        let variables = cnf.variables();
-        let clauses = copied(alloc, cnf.clauses())?;
-        let blockers = first_lits(alloc, cnf.clauses())?;
-        let trail = Trail::new(alloc, variables)?;
+        let trail = Trail::new(alloc, cnf.variables())?;
+        let variables = trail.variables();
+        let clauses = packed(alloc, cnf.clauses())?;
+        let blockers = first_lits(alloc, &clauses)?;
         let scores = Scores::new(alloc, variables)?;
+        let analyzer = Analyzer::new(alloc, variables)?;
         let log = Log {
             chains: Seq::new(alloc),
         };
@@ -194,6 +167,7 @@ impl Search {
             blockers,
             trail,
             scores,
+            analyzer,
             log,
         })
     }
@@ -207,29 +181,22 @@ impl Search {
         level_start: usize,
     ) -> Result<(), AllocError>
         requires ready { IsReady self.old }
-        requires conflict { IsConflict self.old.trail.lits self.old.clauses.items conflict }
+        requires conflict { IsConflict self.old.trail.lits self.old.clauses conflict }
         requires level_start { slice_get self.old.trail.level_starts (length self.old.trail.level_starts - 1)
             ≡ Some level_start }
         ensures ready { OnOk result (IsReady self.new) }
         ensures trail { OnOk result (IsTrail self.new.trail) }
         ensures variables { OnOk result (self.new.trail.variables ≡ self.old.trail.variables) }
         ensures log { OnOk result ((given : List Clause) →
-            IsLogOf given self.old.log.chains self.old.clauses.items →
-            IsLogOf given self.new.log.chains self.new.clauses.items) }
+            IsLogOf given self.old.log.chains self.old.clauses →
+            IsLogOf given self.new.log.chains self.new.clauses) }
         ensures count { OnOk result (length self.new.log.chains ≡ length self.old.log.chains + 1) }
     {
-        let trail = &self.trail;
-        let learnt = analysis::analyze(
-            alloc,
-            trail.variables(),
-            &self.clauses,
-            trail.lits(),
-            trail.reasons(),
-            conflict,
-            level_start,
-        )?;
-        bump_all(&mut self.scores, &learnt.marks);
-        self.clauses.push(learnt.clause)?;
+        let learnt = self
+            .analyzer
+            .analyze(alloc, &self.clauses, &self.trail, conflict, level_start)?;
+        self.scores.bump_all(self.analyzer.marked());
+        self.clauses.push(learnt.clause.as_slice())?;
         self.blockers.push(learnt.lit)?;
         self.log.chains.push(learnt.chain)?;
         backjump(
@@ -244,25 +211,17 @@ impl Search {
     /// Derives the empty clause from the conflict at the falsified clause of a number, at decision level 0.
     fn refute(&mut self, alloc: Global, conflict: usize) -> Result<(), AllocError>
         requires ready { IsReady self.old }
-        requires conflict { IsConflict self.old.trail.lits self.old.clauses.items conflict }
+        requires conflict { IsConflict self.old.trail.lits self.old.clauses conflict }
         requires level_start { slice_get self.old.trail.level_starts (length self.old.trail.level_starts - 1) ≡ None }
         ensures accepted { OnOk result ((given : List Clause) →
-            IsLogOf given self.old.log.chains self.old.clauses.items →
+            IsLogOf given self.old.log.chains self.old.clauses →
             IsAccepted given self.new.log.chains) }
         ensures new_clauses { OnOk result ((given : List Clause) →
-            IsLogOf given self.old.log.chains self.old.clauses.items →
+            IsLogOf given self.old.log.chains self.old.clauses →
             AreNewClauses given self.new.log.chains) }
         ensures count { OnOk result (length self.new.log.chains ≡ length self.old.log.chains + 1) }
     {
-        let trail = &self.trail;
-        let chain = analysis::refute(
-            alloc,
-            trail.variables(),
-            &self.clauses,
-            trail.lits(),
-            trail.reasons(),
-            conflict,
-        )?;
+        let chain = refute(alloc, &self.clauses, &self.trail, conflict)?;
         self.log.chains.push(chain)?;
         Ok(())
     }

@@ -5,8 +5,9 @@
 //! - `tests/logs`: verdicts on logs
 //! - `tests/multisets`: places of multisets and numbers of claims
 //! - `tests/numbers`: formulas that are written as numbers
-//! - `tests/refutations`: the checker accepts the solver's logs
-//! - `tests/solver`: models, refutations and spent fuel
+//! - `tests/refutations`: the checker accepts the solvers' logs, and both solvers agree
+//! - `tests/solver`: models, refutations and spent fuel of both solvers
+//! - `tests/texts`: texts in DIMACS form, and the lines at which others are refused
 #![tactic(auto)]
 
 #[cfg(test)]

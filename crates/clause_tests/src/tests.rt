@@ -6,3 +6,4 @@ mod multisets;
 mod numbers;
 mod refutations;
 mod solver;
+mod texts;

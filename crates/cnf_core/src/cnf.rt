@@ -1,6 +1,6 @@
 //! Formulas in conjunctive normal form. Each literal of a formula's clauses is over one of its variables.
 
-ghost use Rattle.std.specs.Prelude.{◌≡◌, ◌+◌, ◌<◌, ◌++◌, ◌∷◌, [], ◌^◌, length, OnOk, OnErr};
+ghost use Rattle.std.specs.Prelude.{◌≡◌, ◌+◌, ◌<◌, ◌≤◌, ◌++◌, ◌∷◌, [], ◌^◌, length, OnOk, OnErr};
 ghost use Rattle.cnf_core.specs.Clause.{is_model, lit_true, clause_true, assigned, IsOver};
 ghost use Rattle.cnf_core.specs.Formula.{IsFormula};
 
@@ -61,6 +61,15 @@ impl Cnf {
         let number = self.variables;
         self.variables += 1;
         number
+    }
+
+    /// Makes the number of variables a greater one.
+    pub fn grow(&mut self, variables: usize)
+        requires more { self.old.variables ≤ variables }
+        requires few { variables ≤ 2 ^ 40 }
+        ensures { self.new ≡ record { variables = variables; clauses = self.old.clauses } }
+    {
+        self.variables = variables;
     }
 
     /// Adds a clause at the end. The only error is out of memory; it leaves the formula as it was.

@@ -1,116 +1,177 @@
-//! The lines of a formula and of a log after it. Each clause that is read is over the formula's variables.
+//! What the lines of a text say, one after another.
 
-ghost use Rattle.std.specs.Prelude.{IfOk};
-ghost use Rattle.cnf_core.specs.Clause.{IsOver};
+ghost use Rattle.std.specs.Prelude.{◌≡◌, ℕ, [], ◌+◌, map, IfOk, IfSome, Ok};
+ghost use Rattle.dimacs.specs.Text.{words};
+ghost use Rattle.dimacs.specs.Input.{start, after_head, after_clause, after_chain, after_words, at_end, input_of};
+ghost use Rattle.dimacs.specs.Input.{IsButForMemory};
 
-use anyhow::{Result, bail, ensure};
-use cnf_core::{Chain, Clause, Cnf, Lit, Log};
+use crate::error::{Fault, ParseError};
+use crate::line::{chain, head, literals};
+use crate::text::{is_comment, is_word, lines, words};
+use cnf_core::{Clause, Cnf, Log};
 use collections::Seq;
 use std::alloc::Global;
 use std::io;
-use std::io::{BufRead, BufReader};
+use std::io::Read;
 
-/// The formula and the log of the lines so far.
-#[derive(Drop)]
+/// A formula, and a log over it.
+#[derive(Debug, Drop)]
 pub struct Input {
     pub cnf: Cnf,
     pub log: Log,
 }
 
-impl Input {
-    /// The formula without a variable, and the log without a chain.
-    fn new(alloc: Global) -> Input {
-        Input {
-            cnf: Cnf::new(alloc, 0),
-            log: Log {
-                chains: Seq::new(alloc),
-            },
+/// What the lines so far say: the number of clauses that the head names, where there was a head, and the input.
+#[derive(Drop)]
+struct Reader {
+    clauses: Option<usize>,
+    input: Input,
+}
+
+impl Reader {
+    fn new(alloc: Global) -> Reader
+        ensures { result ≡ start }
+    {
+        Reader {
+            clauses: None,
+            input: empty(alloc, 0),
         }
     }
 
-    /// Takes one more line.
-    fn take_line(&mut self, alloc: Global, line: &str) -> Result<()> {
-        match line.split_whitespace().next() {
-            None | Some("c") => {}
-            Some("p") => {
-                ensure!(self.cnf.clauses().is_empty(), "a late header: {line}");
-                self.cnf = header(alloc, line)?;
-            }
-            Some("r") => self.log.chains.push(chain(alloc, line)?)?,
-            Some(_) => {
-                ensure!(self.log.chains.is_empty(), "a clause after a chain: {line}");
-                let clause = clause(alloc, self.cnf.variables(), line)?;
-                self.cnf.push(clause)?;
-            }
+    /// Takes the line of a head. Its words are those after the `p`.
+    fn after_head(self, alloc: Global, line: usize, words: &[&[u8]]) -> Result<Reader, ParseError>
+        ensures { IsButForMemory (after_head self line (map (λ word. word.now) words.now)) result }
+    {
+        if self.clauses.is_some() {
+            return Err(ParseError::Line(line, Fault::LateHead));
         }
-        Ok(())
+        let Some((variables, clauses)) = head(words) else {
+            return Err(ParseError::Line(line, Fault::BadHead));
+        };
+        Ok(Reader {
+            clauses: Some(clauses),
+            input: empty(alloc, variables),
+        })
+    }
+
+    /// Takes the line of a clause.
+    fn after_clause(self, alloc: Global, line: usize, words: &[&[u8]]) -> Result<Reader, ParseError>
+        ensures { IsButForMemory (after_clause self line (map (λ word. word.now) words.now)) result }
+    {
+        if self.clauses.is_none() {
+            return Err(ParseError::Line(line, Fault::NoHead));
+        }
+        let Reader { clauses, input } = self;
+        let Input { mut cnf, log } = input;
+        if log.chains.len() > 0 {
+            return Err(ParseError::Line(line, Fault::LateClause));
+        }
+        let Some(lits) = literals(alloc, cnf.variables(), words)? else {
+            return Err(ParseError::Line(line, Fault::BadClause));
+        };
+        cnf.push(Clause { lits })?;
+        Ok(Reader {
+            clauses,
+            input: Input { cnf, log },
+        })
+    }
+
+    /// Takes the line of a chain. Its words are those after the `r`.
+    fn after_chain(self, alloc: Global, line: usize, words: &[&[u8]]) -> Result<Reader, ParseError>
+        ensures { IsButForMemory (after_chain self line (map (λ word. word.now) words.now)) result }
+    {
+        if self.clauses.is_none() {
+            return Err(ParseError::Line(line, Fault::NoHead));
+        }
+        let Reader { clauses, input } = self;
+        let Input { cnf, mut log } = input;
+        let Some(chain) = chain(alloc, cnf.variables(), words)? else {
+            return Err(ParseError::Line(line, Fault::BadChain));
+        };
+        log.chains.push(chain)?;
+        Ok(Reader {
+            clauses,
+            input: Input { cnf, log },
+        })
+    }
+
+    /// Takes the line of that number with those words.
+    fn after_words(self, alloc: Global, line: usize, words: &[&[u8]]) -> Result<Reader, ParseError>
+        ensures { IsButForMemory (after_words self line (map (λ word. word.now) words.now)) result }
+    {
+        let [first, rest @ ..] = words else {
+            return Ok(self);
+        };
+        if is_comment(first) {
+            return Ok(self);
+        }
+        if is_word(first, b"p") {
+            return self.after_head(alloc, line, rest);
+        }
+        if is_word(first, b"r") {
+            return self.after_chain(alloc, line, rest);
+        }
+        self.after_clause(alloc, line, words)
+    }
+
+    /// Takes the line of that number.
+    fn after_line(self, alloc: Global, line: usize, text: &[u8]) -> Result<Reader, ParseError>
+        ensures { IsButForMemory (after_words self line (words text.now)) result }
+    {
+        let words = words(alloc, text)?;
+        self.after_words(alloc, line, words.as_slice())
+    }
+
+    /// What was read, where the text ends with the line of that number.
+    fn at_end(self, line: usize) -> Result<Input, ParseError>
+        ensures { result ≡ at_end line self }
+    {
+        let Reader { clauses, input } = self;
+        let Some(clauses) = clauses else {
+            return Err(ParseError::Line(line, Fault::NoHead));
+        };
+        if input.cnf.clauses().len() != clauses {
+            return Err(ParseError::Line(line, Fault::WrongCount));
+        }
+        Ok(input)
     }
 }
 
-/// Reads a formula and a log over it from standard input, to its end. An error is the first line that is not of the
-/// form, a fault of reading, or out of memory.
-pub fn read(rt: &(impl io::Input + AllocGlobal)) -> Result<Input> {
-    let mut input = Input::new(rt.alloc());
-    for line in BufReader::new(rt.alloc(), rt.reader())?.lines(rt.alloc()) {
-        input.take_line(rt.alloc(), line?.as_str())?;
+/// The formula over that many variables without a clause, and the log without a chain.
+fn empty(alloc: Global, variables: usize) -> Input
+    ensures { result ≡ record { cnf = record { variables = variables; clauses = [] }; log = record { chains = [] } } }
+{
+    Input {
+        cnf: Cnf::new(alloc, variables),
+        log: Log {
+            chains: Seq::new(alloc),
+        },
     }
+}
+
+/// The formula and the log that a text says, or the first line that is not of the form.
+pub fn parse(alloc: Global, bytes: &[u8]) -> Result<Input, ParseError>
+    ensures { IsButForMemory (input_of bytes.now) result }
+{
+    let lines = lines(alloc, bytes)?;
+    let mut reader = Reader::new(alloc);
+    for place in 0..lines.len() {
+        reader = reader.after_line(alloc, place + 1, lines[place])?;
+    }
+    reader.at_end(lines.len())
+}
+
+/// Reads a reader to its end, and parses what it gave.
+fn read_all<R: Read + Drop>(alloc: Global, mut reader: R) -> anyhow::Result<Input>
+    ensures { IfOk result (λ input. IfSome (R.remaining reader) (λ bytes. input_of bytes ≡ Ok input)) }
+{
+    let mut bytes = Vec::new(alloc);
+    reader.read_to_end(&mut bytes)?;
+    let input = parse(alloc, bytes.as_slice())?;
     Ok(input)
 }
 
-/// The formula without clauses that a header line begins.
-fn header(alloc: Global, line: &str) -> Result<Cnf> {
-    let Some(word) = line.split_whitespace().nth(2) else {
-        bail!("no number of variables: {line}");
-    };
-    let variables = word.parse::<usize>()?;
-    Ok(Cnf::new(alloc, variables))
-}
-
-/// The literal of a number as in DIMACS files; 0 is none.
-fn lit(word: &str) -> Result<Option<Lit>> {
-    let number = word.parse::<i64>()?;
-    if number == 0 {
-        return Ok(None);
-    }
-    Ok(Some(Lit {
-        variable: (number.unsigned_abs() - 1) as usize,
-        positive: number > 0,
-    }))
-}
-
-/// The clause of a line, over n variables.
-fn clause(alloc: Global, variables: usize, line: &str) -> Result<Clause>
-    ensures { IfOk result (λ c. IsOver variables c.lits) }
-{
-    let mut lits = Seq::new(alloc);
-    for word in line.split_whitespace() {
-        let Some(lit) = lit(word)? else {
-            return Ok(Clause { lits });
-        };
-        ensure!(lit.variable < variables, "no such variable: {line}");
-        lits.push(lit)?;
-    }
-    bail!("no 0 at the end: {line}");
-}
-
-/// The chain of a line.
-fn chain(alloc: Global, line: &str) -> Result<Chain> {
-    let mut words = line.split_whitespace().skip(1);
-    let Some(word) = words.next() else {
-        bail!("no first clause: {line}");
-    };
-    let first = word.parse::<usize>()?;
-    let mut steps = Seq::new(alloc);
-    let mut pivot = None;
-    for word in words {
-        if let Some(lit) = pivot {
-            steps.push((lit, word.parse::<usize>()?))?;
-            pivot = None;
-        } else {
-            pivot = lit(word)?;
-            ensure!(pivot.is_some(), "a step with no literal: {line}");
-        }
-    }
-    ensure!(pivot.is_none(), "a step with no clause: {line}");
-    Ok(Chain { first, steps })
+/// Reads standard input to its end, and parses it. An error is that of [`parse`], or a fault of reading.
+pub fn read(rt: &(impl io::Input + AllocGlobal)) -> anyhow::Result<Input> {
+    read_all(rt.alloc(), rt.reader())
 }

@@ -5,8 +5,9 @@
 //! - `tests/library`: libraries that are read, and the first fault of a text that is none
 //! - `tests/orders`: patterns that differ in each way that their order looks at
 //! - `tests/patterns`: what patterns and goals compute on a file that was read
-//! - `tests/search`: how many rules goals of files that were read have
+//! - `tests/search`: how many rules goals of files that were read have, and which multisets have no pattern
 //! - `tests/specs`: files that are read, and files that are built of definitions
+//! - `tests/symbolic`: patterns and goals of a file as terms
 #![tactic(auto)]
 
 #[cfg(test)]

@@ -6,3 +6,4 @@ mod orders;
 mod patterns;
 mod search;
 mod specs;
+mod symbolic;

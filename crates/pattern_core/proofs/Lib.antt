@@ -12,3 +12,7 @@ pub mod FormLemmas
 pub mod ForwardLemmas
 pub mod EvaluationLemmas
 pub mod KnownLemmas
+pub mod TermLemmas
+pub mod SymbolicLemmas
+pub mod SymbolicTables
+pub mod HopelessLemmas

@@ -73,9 +73,9 @@ same_things p (v ∷ vs) = (refl, same_things p vs)
 
 -- a well-sorted term whose inputs are of these sorts
 pub record IsSoundTerm (p : ℕ) (ss : List Sort) (t : Term) : Type 0 where
-  stays : stays_in ss t ≡ true
-  of_sort : Sort
-  sorted : sort_of p t ≡ Some of_sort
+  pub stays : stays_in ss t ≡ true
+  pub of_sort : Sort
+  pub sorted : sort_of p t ≡ Some of_sort
 
 fits : (p : ℕ) (ss : List Sort) (vs : List Value) (t : Term) → IsSoundTerm p ss t → HaveSorts ss vs → InputsFit vs t
 fits p ss vs t sound h = InputsFit-from_sorts ss vs h t sound.stays
@@ -96,9 +96,9 @@ scope_of o = o.args ++ map (λ w. sort.Bits w) o.attrs
 
 -- well-sorted results, over inputs of their own
 pub record HasSoundTerms (f : File) (g : Goal) : Type 0 where
-  of_ops : (k : ℕ) (o : Operation) → slice_get f.ops k ≡ Some o
+  pub of_ops : (k : ℕ) (o : Operation) → slice_get f.ops k ≡ Some o
       → AllByRecursion (IsSoundTerm f.pointer (scope_of o)) o.results
-  of_goal : AllByRecursion (IsSoundTerm f.pointer g.args) g.results
+  pub of_goal : AllByRecursion (IsSoundTerm f.pointer g.args) g.results
 
 -- ---- sources
 

@@ -7,3 +7,6 @@ pub mod Meaning
 pub mod Renaming
 pub mod Known
 pub mod Evaluation
+pub mod Claim
+pub mod Symbolic
+pub mod Hopeless

@@ -1,6 +1,7 @@
 //! Patterns and what is said of a goal. They are plain data: which are well-formed for a goal of a file
 //! is a test of its own.
 
+use bv_terms::Value;
 use collections::Seq;
 use multiset_rank::Multi;
 
@@ -25,6 +26,13 @@ pub struct Node {
 pub struct Pattern {
     pub nodes: Seq<Node>,
     pub results: Seq<Src>,
+}
+
+/// Inputs of a goal at which patterns are compared with it: a value for each argument. That they are of the
+/// arguments' sorts is `IsExample` of `specs/Claim`.
+#[derive(Debug, Drop)]
+pub struct Example {
+    pub inputs: Seq<Value>,
 }
 
 /// What a library says of a goal.

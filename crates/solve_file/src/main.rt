@@ -1,11 +1,13 @@
 //! The program `solve_file`: it reads a formula from standard input, and prints a model, or a log of resolution that
 //! refutes the formula, in lines `r` as `dimacs` reads them. Its first word, if it has one, is the number of conflicts
-//! after which it gives up.
+//! after which it gives up. With `plain` as its second word it takes the solver that scans all clauses.
 #![tactic(auto)]
 
 use anyhow::Result;
 use cdcl_core::{Answer, solve};
-use cnf_core::{Chain, Fuel};
+use cdcl_watch::Solver;
+use cnf_core::{Chain, Cnf, Fuel};
+use std::alloc::{AllocError, Global};
 use std::io::{BufWriter, Write};
 use std::{env, io};
 
@@ -15,6 +17,22 @@ fn units(rt: &(impl env::Env + AllocGlobal)) -> Result<u64> {
         Some(word) => Ok(word.parse::<u64>()?),
         None => Ok(1 << 40),
     }
+}
+
+/// Whether the second word asks for the plain solver.
+fn is_plain(rt: &(impl env::Env + AllocGlobal)) -> Result<bool> {
+    match env::args(rt)?.nth(2) {
+        Some(word) => Ok(word.as_str() == "plain"),
+        None => Ok(false),
+    }
+}
+
+/// The answer of the plain solver, or of the one that watches.
+fn answer_to(alloc: Global, cnf: Cnf, fuel: &mut Fuel, plain: bool) -> Result<Answer, AllocError> {
+    if plain {
+        return solve(alloc, &cnf, fuel);
+    }
+    Solver::new(alloc, cnf)?.solve(fuel)
 }
 
 /// Writes a literal as in DIMACS files.
@@ -65,9 +83,9 @@ fn main(rt: HostRuntime) -> Result<()> {
     let units = units(&rt)?;
     let input = dimacs::read(&rt)?;
     let mut fuel = Fuel::new(units);
-    let answer = solve(rt.alloc(), &input.cnf, &mut fuel)?;
+    let answer = answer_to(rt.alloc(), input.cnf, &mut fuel, is_plain(&rt)?)?;
     let mut out = BufWriter::new(rt.alloc(), io::writer(&rt))?;
-    put_answer(&mut out, &answer, units - fuel.left())?;
+    put_answer(&mut out, &answer, units.saturating_sub(fuel.left()))?;
     out.flush()?;
     Ok(())
 }

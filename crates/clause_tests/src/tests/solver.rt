@@ -1,7 +1,8 @@
-//! Answers on small formulas, by hand.
+//! Answers of both solvers on small formulas, by hand.
 
 use super::numbers::formula;
 use cdcl_core::{Answer, solve};
+use cdcl_watch::Solver;
 use cnf_core::Fuel;
 use std::alloc::{AllocError, Global};
 use std::test::Fail;
@@ -28,7 +29,7 @@ const PIGEONS: &[i32] = &[
 ];
 
 /// A name, the number of variables, the clauses, the fuel, what the answer is, and the fuel that is left.
-const CASES: [(&str, usize, &[i32], u64, Kind, u64); 10] = [
+const CASES: [(&str, usize, &[i32], u64, Kind, u64); 15] = [
     ("no variable", 0, &[], 0, Kind::Model, 0),
     ("no clause", 2, &[], 0, Kind::Model, 0),
     ("a unit clause", 1, &[1, 0], 0, Kind::Model, 0),
@@ -39,9 +40,44 @@ const CASES: [(&str, usize, &[i32], u64, Kind, u64); 10] = [
     ("empty and fuel", 1, &[1, 0, 0, -1, 0], 9, Kind::Refuted, 9),
     ("a decision", 2, ALL_SIGNS, 9, Kind::Refuted, 7),
     ("too little fuel", 2, ALL_SIGNS, 1, Kind::Spent, 0),
+    (
+        "repeated literals",
+        2,
+        &[1, 1, 0, -1, 2, 2, 0],
+        0,
+        Kind::Model,
+        0,
+    ),
+    ("opposite literals", 2, &[1, -1, 0, 2, 0], 0, Kind::Model, 0),
+    (
+        "opposites and a conflict",
+        2,
+        &[1, -1, 0, 2, 2, 0, -2, -2, 0],
+        3,
+        Kind::Refuted,
+        2,
+    ),
+    ("a clause twice", 2, &[1, 2, 0, 1, 2, 0], 0, Kind::Model, 0),
+    (
+        "a variable in no clause",
+        3,
+        &[1, 0, -1, 3, 0],
+        0,
+        Kind::Model,
+        0,
+    ),
 ];
 
-/// What the solver finds of the formula of such numbers, with that much fuel.
+/// What an answer says, with the fuel that is left.
+fn told(answer: &Answer, fuel: &Fuel) -> Found {
+    match answer {
+        Answer::Model(_) => (Kind::Model, 0, fuel.left()),
+        Answer::Refuted(log) => (Kind::Refuted, log.chains.len() as u64, fuel.left()),
+        Answer::Spent(log) => (Kind::Spent, log.chains.len() as u64, fuel.left()),
+    }
+}
+
+/// What the plain solver finds of the formula of such numbers, with that much fuel.
 fn found(
     alloc: Global,
     variables: usize,
@@ -50,11 +86,22 @@ fn found(
 ) -> Result<Found, AllocError> {
     let cnf = formula(alloc, variables, numbers)?;
     let mut fuel = Fuel::new(units);
-    match solve(alloc, &cnf, &mut fuel)? {
-        Answer::Model(_) => Ok((Kind::Model, 0, fuel.left())),
-        Answer::Refuted(log) => Ok((Kind::Refuted, log.chains.len() as u64, fuel.left())),
-        Answer::Spent(log) => Ok((Kind::Spent, log.chains.len() as u64, fuel.left())),
-    }
+    let answer = solve(alloc, &cnf, &mut fuel)?;
+    Ok(told(&answer, &fuel))
+}
+
+/// What the solver that watches finds of it.
+fn watched(
+    alloc: Global,
+    variables: usize,
+    numbers: &[i32],
+    units: u64,
+) -> Result<Found, AllocError> {
+    let cnf = formula(alloc, variables, numbers)?;
+    let mut solver = Solver::new(alloc, cnf)?;
+    let mut fuel = Fuel::new(units);
+    let answer = solver.solve(&mut fuel)?;
+    Ok(told(&answer, &fuel))
 }
 
 #[test]
@@ -67,8 +114,18 @@ fn answers_are_those_by_hand(rt: HostRuntime) -> Result<(), Fail> {
 }
 
 #[test]
+fn watches_find_what_is_so_by_hand(rt: HostRuntime) -> Result<(), Fail> {
+    for (name, variables, numbers, units, wanted, left) in CASES {
+        let found = watched(rt.alloc(), variables, numbers, units)?;
+        assert!(rt; found == (wanted, units - left, left), "{name}");
+    }
+    Ok(())
+}
+
+#[test]
 fn four_pigeons_need_four_holes(rt: HostRuntime) -> Result<(), Fail> {
-    let (kind, _, _) = found(rt.alloc(), 12, PIGEONS, 1000)?;
-    assert!(rt; kind == Kind::Refuted);
+    let (plain, _, _) = found(rt.alloc(), 12, PIGEONS, 1000)?;
+    let (kind, _, _) = watched(rt.alloc(), 12, PIGEONS, 1000)?;
+    assert!(rt; plain == Kind::Refuted && kind == Kind::Refuted);
     Ok(())
 }

@@ -1,11 +1,12 @@
 //! Tests: how many rules the search finds for goals of files that were read, and of how many operations each is; the
-//! trials and the rules of one multiset; and which goals can be searched.
+//! trials and the rules of one multiset; which multisets are hopeless; and which goals can be searched.
 
 ghost use Rattle.std.specs.Prelude.{length, IfSome};
 ghost use Rattle.multiset_rank.specs.Multisets.{AreBelow};
 
 use isel_spec::Spec;
 use multiset_rank::{Multi, count, unrank};
+use pattern_core::hopeless;
 use plain_search::{can_search, has_no_memory, search, search_multi, trials};
 use spec_reader::read_spec;
 use std::alloc::{AllocError, Global};
@@ -210,6 +211,73 @@ fn the_rules_of_one_multiset_are_found(rt: HostRuntime) -> Result<(), Fail> {
         text.push_str(items)?;
         assert!(rt;
             outcome(rt.alloc(), text.as_str(), size, number)? == wanted,
+            "{name}"
+        );
+    }
+    Ok(())
+}
+
+/// Whether the multiset of that number among those of a size is hopeless for the first goal of a text.
+fn is_hopeless(alloc: Global, text: &str, size: u8, number: u64) -> Result<Option<bool>, Fail> {
+    let spec = read_spec(alloc, text.as_bytes()).ok().ok_or("a file")?;
+    if spec.goals.len() == 0 {
+        return Ok(None);
+    }
+    let Some(multi) = multi_at(&spec, size, number) else {
+        return Ok(None);
+    };
+    Ok(Some(hopeless(&spec, 0, &multi)))
+}
+
+/// What the case shows, the size and the number of a multiset, whether it is hopeless, and the text after the head.
+const HOPELESS: [(&str, u8, u64, bool, &str); 4] = [
+    (
+        "three operations, no argument and one result",
+        3,
+        0,
+        true,
+        "(op const8 () ((k (_ BitVec 8))) (k)) (op add8 ((a (_ BitVec 8)) (b (_ BitVec 8))) () ((bvadd a b))) \
+        (op and8 ((a (_ BitVec 8)) (b (_ BitVec 8))) () ((bvand a b))) \
+        (goal blsr8 ((reg a (_ BitVec 8))) 1 ((bvand (bvsub a #x01) a)))",
+    ),
+    (
+        "one of each operation",
+        3,
+        4,
+        false,
+        "(op const8 () ((k (_ BitVec 8))) (k)) (op add8 ((a (_ BitVec 8)) (b (_ BitVec 8))) () ((bvadd a b))) \
+        (op and8 ((a (_ BitVec 8)) (b (_ BitVec 8))) () ((bvand a b))) \
+        (goal blsr8 ((reg a (_ BitVec 8))) 1 ((bvand (bvsub a #x01) a)))",
+    ),
+    (
+        "nothing of one bit",
+        1,
+        0,
+        true,
+        "(op add8 ((a (_ BitVec 8)) (b (_ BitVec 8))) () ((bvadd a b))) \
+        (op ltu8 ((a (_ BitVec 8)) (b (_ BitVec 8))) () ((ite (bvult a b) #b1 #b0))) \
+        (goal addc8 ((reg a (_ BitVec 8)) (reg b (_ BitVec 8))) 1 ((bvadd a b) \
+        ((_ extract 8 8) (bvadd ((_ zero_extend 1) a) ((_ zero_extend 1) b)))))",
+    ),
+    (
+        "a memory that the goal lacks",
+        1,
+        0,
+        true,
+        "(op load32 ((m Mem) (p (_ BitVec 32))) () ((mmark 4 m p) (mload 4 m p))) \
+        (op add32 ((a (_ BitVec 32)) (b (_ BitVec 32))) () ((bvadd a b))) \
+        (op store32 ((m Mem) (p (_ BitVec 32)) (v (_ BitVec 32))) () ((mstore 4 m p v))) \
+        (goal mov32 ((reg a (_ BitVec 32))) 1 (a))",
+    ),
+];
+
+#[test]
+fn sorts_and_counts_tell_hopeless_multisets(rt: HostRuntime) -> Result<(), Fail> {
+    for (name, size, number, wanted, items) in HOPELESS {
+        let mut text = String::from_str(rt.alloc(), "(isel-spec 1 32) ")?;
+        text.push_str(items)?;
+        assert!(rt;
+            is_hopeless(rt.alloc(), text.as_str(), size, number)? == Some(wanted),
             "{name}"
         );
     }

@@ -1,4 +1,4 @@
-use Rattle.cdcl_core.proofs.TrailLemmas.{ExtendsTrail-itself}
+use Rattle.cdcl_base.proofs.TrailLemmas.{ExtendsTrail-itself}
 use Rattle.cdcl_core.proofs.propagation.propagate.Goals as goal
 
 pub loop-number-init : goal.loop-number-init

@@ -1,5 +1,5 @@
 use Rattle.std.proofs.Common.{◌-◌, length}
-use Rattle.cdcl_core.specs.Trail.{ExtendsTrail, AreReasons}
+use Rattle.cdcl_base.specs.Trail.{ExtendsTrail, AreReasons}
 use Rattle.cdcl_core.specs.Propagation.{AreBlockers}
 use Rattle.cdcl_core.proofs.propagation.propagate.Given as goal
 

@@ -2,11 +2,12 @@ use Rattle.std.proofs.Common.{◌≡◌, ℕ, ◌+◌, ◌<◌, Bool, true, List
 use Rattle.std.proofs.Common.{length, arith, slice_get}
 use Rattle.std.specs.Vec.{vec_len}
 use Rattle.cnf_core.specs.declared.clause.Lit.{Lit}
-use Rattle.std.proofs.lemmas.Option.{slice_get_read}
 use Rattle.cnf_core.specs.declared.clause.Clause.{Clause}
-use Rattle.cnf_core.specs.Clause.{contains, IsOver}
+use Rattle.cnf_core.specs.Clause.{contains}
+use Rattle.cnf_core.specs.Resolution.{clause}
 use Rattle.cnf_core.proofs.Over.{over-at}
-use Rattle.cdcl_core.specs.Trail.{Trail}
+use Rattle.cdcl_base.specs.Trail.{Trail}
+use Rattle.cdcl_base.proofs.AnalysisLemmas.{lits-over}
 use Rattle.cdcl_core.specs.Propagation.{AreBlockers}
 use Rattle.cdcl_core.proofs.PropagationLemmas.{IsPropagating, propagate_once-begins, propagate_once-propagated}
 use Rattle.cdcl_core.proofs.PropagationLemmas.{propagate_once-forced, propagate_once-ends, blockers-length, blocker-at}
@@ -33,44 +34,33 @@ index_mut-requires c =
 
 pub status_by_blocker-requires-clause-blocker : goal.status_by_blocker-requires-clause-blocker
 status_by_blocker-requires-clause-blocker c =
-    let at : slice_get c.args.clauses.now c.loop-number.number ≡ Some c.index-clauses-number.result =
-    slice_get_read c.args.clauses.now (length c.args.clauses.now) c.loop-number.number c.index-clauses-number.result
-    refl (omega arith) c.index-clauses-number.is in
-    subst (λ l. contains c.index-clauses-number.result.lits l ≡ true) (sym c.index.ensures)
-    (blocker-at c.args.clauses.now c.loop-number.blockers.items c.loop-number.number c.index-clauses-number.result
-    c.index.result.now c.loop-number.invariant.1 at)
+    subst (λ l. contains c.lits.result.now l ≡ true) (sym c.index.ensures)
+    (blocker-at c.args.clauses.now c.loop-number.blockers.items c.loop-number.number (clause c.lits.result.now)
+    c.index.result.now c.loop-number.invariant.1 c.lits.ensures)
+
+pub status_by_blocker-requires-clause-over : goal.status_by_blocker-requires-clause-over
+status_by_blocker-requires-clause-over c =
+    lits-over c.args.trail.now.variables c.loop-number.trail.variables c.args.clauses.now c.loop-number.number
+    c.lits.result.now (sym c.loop-number.invariant.0.extends.variables) c.requires.over c.lits.ensures
 
 pub assign-requires-clause-there : goal.assign-requires-clause-there
 assign-requires-clause-there c =
-    let inside : c.loop-number.number < length c.args.clauses.now = omega arith in
-    let over =
-    subst (λ (x : Clause). IsOver c.args.trail.now.variables x.lits) (sym c.index-clauses-number.is)
-    (c.requires.over c.loop-number.number c.index-clauses-number.result inside) in
-    subst (λ n. c.in-Unit.lit.variable < n) (sym c.loop-number.invariant.0.extends.variables)
-    (over-at c.args.trail.now.variables c.index-clauses-number.result.lits c.in-Unit.lit over
-    c.in-Unit.ensures.0.stands)
+    over-at c.loop-number.trail.variables c.lits.result.now c.in-Unit.lit
+    (lits-over c.args.trail.now.variables c.loop-number.trail.variables c.args.clauses.now c.loop-number.number
+    c.lits.result.now (sym c.loop-number.invariant.0.extends.variables) c.requires.over c.lits.ensures)
+    c.in-Unit.ensures.0.stands
 
 pub returns-in-Falsified-clause-tells : goal.returns-in-Falsified-clause-tells
-returns-in-Falsified-clause-tells c =
-    let inside : c.loop-number.number < length c.args.clauses.now = omega arith in (
-      c.index-clauses-number.result,
-      slice_get_read c.args.clauses.now (length c.args.clauses.now) c.loop-number.number c.index-clauses-number.result
-          refl inside c.index-clauses-number.is,
-      c.in-Falsified.ensures,
-    )
+returns-in-Falsified-clause-tells c = (clause c.lits.result.now, c.lits.ensures, c.in-Falsified.ensures)
 
 pub loop-number-preserved : goal.loop-number-preserved
 loop-number-preserved c =
-    let inside : c.loop-number.number < length c.args.clauses.now = omega arith in
-    let at : slice_get c.args.clauses.now c.loop-number.number ≡ Some c.index-clauses-number.result =
-    slice_get_read c.args.clauses.now (length c.args.clauses.now) c.loop-number.number c.index-clauses-number.result
-    refl inside c.index-clauses-number.is in
     elim c.match-status_by_blocker.branch [
       | in-Satisfied w ↦ (
         progress w.trail-is w.changed-is
             (propagate_once-propagated c.args.clauses.now c.args.trail.now c.loop-number.trail c.loop-number.number
-            c.loop-number.changed c.index-clauses-number.result
-            c.loop-number.invariant.0 at
+            c.loop-number.changed (clause c.lits.result.now)
+            c.loop-number.invariant.0 c.lits.ensures
             (inl
             (record {
               lit = w.in-Satisfied.lit;
@@ -79,21 +69,21 @@ loop-number-preserved c =
             }))),
         blockers w.blockers-is
             (blockers-set c.args.clauses.now c.loop-number.blockers.items c.loop-number.number
-            c.index-clauses-number.result w.in-Satisfied.lit
-            c.loop-number.invariant.1 at w.in-Satisfied.ensures.0),
+            (clause c.lits.result.now) w.in-Satisfied.lit
+            c.loop-number.invariant.1 c.lits.ensures w.in-Satisfied.ensures.0),
       )
       | in-Unresolved w ↦ (
         progress w.trail-is w.changed-is
             (propagate_once-propagated c.args.clauses.now c.args.trail.now c.loop-number.trail c.loop-number.number
-            c.loop-number.changed c.index-clauses-number.result
-            c.loop-number.invariant.0 at (inr w.in-Unresolved.ensures)),
+            c.loop-number.changed (clause c.lits.result.now)
+            c.loop-number.invariant.0 c.lits.ensures (inr w.in-Unresolved.ensures)),
         blockers w.blockers-is c.loop-number.invariant.1,
       )
       | in-Unit+in_ok-assign-in-Unit w ↦ (
         progress w.trail-is w.changed-is
             (propagate_once-forced c.args.clauses.now c.args.trail.now c.loop-number.trail w.assign.new.self
             c.loop-number.number c.loop-number.changed
-            c.index-clauses-number.result w.in-Unit.lit c.loop-number.invariant.0 at w.in-Unit.ensures.0
+            (clause c.lits.result.now) w.in-Unit.lit c.loop-number.invariant.0 c.lits.ensures w.in-Unit.ensures.0
             w.in_ok-assign-in-Unit.ensures.was_trail w.in_ok-assign-in-Unit.ensures.trail
             w.in_ok-assign-in-Unit.ensures.ok),
         blockers w.blockers-is c.loop-number.invariant.1,

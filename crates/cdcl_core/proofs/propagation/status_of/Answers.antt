@@ -8,10 +8,10 @@ pub returns-then-ne-clause-status : goal.returns-then-ne-clause-status
 returns-then-ne-clause-status c =
     clause_status-is c.args.trail.now.lits c.args.lits.now Unresolved (grind (arith, common_steps))
 
-pub returns-in-Some-only-2-clause-status : goal.returns-in-Some-only-2-clause-status
-returns-in-Some-only-2-clause-status c =
-    clause_status-is c.args.trail.now.lits c.args.lits.now (Unit c.in-Some-only-2.lit) (grind (arith, common_steps))
+pub returns-in-Some-only-clause-status : goal.returns-in-Some-only-clause-status
+returns-in-Some-only-clause-status c =
+    clause_status-is c.args.trail.now.lits c.args.lits.now (Unit c.in-Some-only.lit) (grind (arith, common_steps))
 
-pub returns-in-None-only-clause-status : goal.returns-in-None-only-clause-status
-returns-in-None-only-clause-status c =
+pub returns-in-None-clause-status : goal.returns-in-None-clause-status
+returns-in-None-clause-status c =
     clause_status-is c.args.trail.now.lits c.args.lits.now Falsified (grind (arith, common_steps))

@@ -1,7 +1,7 @@
 use Rattle.std.proofs.Common.{◌∙◌, ap, sym, subst}
-use Rattle.cdcl_core.specs.Trail.{Trail, AreReasons, ArePropagated, ArePropagatedBefore}
-use Rattle.cdcl_core.proofs.TrailLemmas.{ArePropagatedBefore-extends, ArePropagatedBefore-decided, AreReasons-decided}
-use Rattle.cdcl_core.proofs.AnalysisLemmas.{where_none}
+use Rattle.cdcl_base.specs.Trail.{Trail, AreReasons, ArePropagated, ArePropagatedBefore}
+use Rattle.cdcl_base.proofs.TrailLemmas.{ArePropagatedBefore-extends, ArePropagatedBefore-decided, AreReasons-decided}
+use Rattle.cdcl_base.proofs.AnalysisLemmas.{where_none}
 use Rattle.cdcl_core.proofs.search.next_conflict.Goals as goal
 
 pub returns-then-is_some-clause-before : goal.returns-then-is_some-clause-before

@@ -1,5 +1,5 @@
 use Rattle.std.proofs.Common.{◌≡◌, ◌-◌, length}
-use Rattle.cdcl_core.specs.Trail.{IsTrail, AreReasons, ArePropagatedBefore}
+use Rattle.cdcl_base.specs.Trail.{IsTrail, AreReasons, ArePropagatedBefore}
 use Rattle.cdcl_core.specs.Propagation.{AreBlockers}
 use Rattle.cdcl_core.proofs.search.next_conflict.Given as goal
 

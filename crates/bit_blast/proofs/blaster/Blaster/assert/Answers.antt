@@ -34,7 +34,8 @@ pub returns-clause-continues : goal.returns-clause-continues
 returns-clause-continues c =
     let table = c.args.terms.now in
     let inside = c.self.inside in
+    let right = subst (λ (b : Blast). IsRight b table) (sym c.self.view_is) c.requires.right in
     subst (λ (b : Blast). Continues b.netlist c.assert_formula.new.circuit) c.self.view_is
     (moves-continue table (term_at table c.args.formula) (λ env. node_true table env c.args.formula)
-    (wiring inside.circuit inside.nodes) (wiring c.assert_formula.new.circuit c.assert_formula.new.nodes)
+    (wiring inside.circuit inside.nodes) (wiring c.assert_formula.new.circuit c.assert_formula.new.nodes) right.words
     c.in_ok-assert_formula.ensures.moves)

@@ -1,0 +1,12 @@
+pub mod CodeLemmas
+pub mod ClauseLemmas
+pub mod MarkLemmas
+pub mod Places
+pub mod ValueLemmas
+pub mod TrailLemmas
+pub mod TrailState
+pub mod LeadsLemmas
+pub mod CollectLemmas
+pub mod AnalysisLemmas
+pub mod DecisionLemmas
+pub mod SearchLemmas

@@ -1,5 +1,0 @@
-use Rattle.cdcl_core.proofs.DecisionLemmas.{IsBest}
-use Rattle.cdcl_core.proofs.decision.Scores.pick.Given as goal
-
-abbrev pub invariant-loop-variable : goal.invariant-loop-variable
-invariant-loop-variable l = IsBest l.trail l.scores l.best l.variable

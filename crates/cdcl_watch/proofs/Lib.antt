@@ -1,0 +1,10 @@
+pub mod WatchLemmas
+pub mod MoveLemmas
+pub mod ListLemmas
+pub mod VisitLemmas
+pub mod WatchingLemmas
+pub mod AttachLemmas
+pub mod LookLemmas
+pub mod RootLemmas
+pub mod SearchSteps
+pub mod AnswerLemmas
