@@ -1,0 +1,5 @@
+mod ValueLemmas
+mod InputLemmas
+mod WitnessLemmas
+mod RefutedLemmas
+mod SessionLemmas

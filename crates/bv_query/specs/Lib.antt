@@ -1,0 +1,5 @@
+pub mod Inputs
+pub mod Values
+pub mod Refuted
+pub mod Session
+pub mod Decision

@@ -1,0 +1,7 @@
+//! A module for each subject.
+
+mod answers;
+mod budgets;
+mod identities;
+mod programs;
+mod sessions;
