@@ -1,0 +1,9 @@
+//! Tests of the location formulas, with ample memory; there is no code.
+//!
+//! - `tests/given`: what the calls require, as tests
+//! - `tests/asking`: each pattern of a formula, by a session to which is asserted what differs from those found before
+//! - `tests/patterns`: the patterns of one operation over two bits, and how many agree with a goal at some inputs
+#![tactic(auto)]
+
+#[cfg(test)]
+mod tests;

@@ -1,0 +1,5 @@
+//! A module for each subject.
+
+mod asking;
+mod given;
+mod patterns;

@@ -1,0 +1,54 @@
+use Rattle.std.proofs.Common.{◌≡◌, false, subst, arith}
+use Rattle.bv_terms.proofs.GraftLemmas.{Extends-further, Extends-longer}
+use Rattle.loc_encode.specs.Tests.{IsTest}
+use Rattle.loc_encode.specs.Layout.{any_below}
+use Rattle.loc_encode.specs.Shape.{names_node}
+use Rattle.loc_encode.specs.Claimed.{claim_in}
+use Rattle.loc_encode.proofs.TestLemmas.{IsTest-truth}
+use Rattle.loc_encode.proofs.StepLemmas.{building-first, building-any}
+use Rattle.loc_encode.proofs.layout.Layout.row_names.Goals as goal
+
+pub returns-in_err-any-clause-extends : goal.returns-in_err-any-clause-extends
+returns-in_err-any-clause-extends c = c.truth.ensures.extends
+
+pub loop-place-init : goal.loop-place-init
+loop-place-init c =
+    building-first _ _ _ _ _ c.truth.ensures.extends
+    (IsTest-truth (claim_in c.args.self.now) _ _ _ false c.truth.ensures.extends c.in_ok-any.ensures.made)
+
+pub returns-in_err-named-clause-extends : goal.returns-in_err-named-clause-extends
+returns-in_err-named-clause-extends c = Extends-further _ _ _ c.loop-place.invariant.extends
+    c.names_node.ensures.extends
+
+pub or-requires-clause-left : goal.or-requires-clause-left
+or-requires-clause-left c = omega (
+  arith,
+  Extends-longer _ _ c.names_node.ensures.extends,
+  c.loop-place.invariant.test.there,
+)
+
+pub or-requires-clause-right : goal.or-requires-clause-right
+or-requires-clause-right c = c.in_ok-named.ensures.test.there
+
+pub returns-in_err-any-2-clause-extends : goal.returns-in_err-any-2-clause-extends
+returns-in_err-any-2-clause-extends c =
+    Extends-further _ _ _ (Extends-further _ _ _ c.loop-place.invariant.extends c.names_node.ensures.extends)
+    c.or.ensures.extends
+
+pub loop-place-preserved : goal.loop-place-preserved
+loop-place-preserved c =
+    building-any (claim_in c.args.self.now) _ _ _ _ _ _ _
+    (λ g place. names_node (claim_in c.args.self.now) g c.args.node c.args.row place) c.loop-place.place
+    c.loop-place.invariant
+    c.names_node.ensures.extends c.in_ok-named.ensures.test c.or.ensures.extends
+    c.in_ok-any-2.ensures.made
+
+pub returns-clause-extends : goal.returns-clause-extends
+returns-clause-extends c = c.loop-place.invariant.extends
+
+pub returns-clause-test : goal.returns-clause-test
+returns-clause-test c =
+    let last : c.loop-place.place ≡ 4 = omega (arith) in
+    subst (λ n. IsTest (claim_in c.args.self.now) c.loop-place.terms c.loop-place.any
+    (λ g. any_below (λ place. names_node (claim_in c.args.self.now) g c.args.node c.args.row place) n)) last
+    c.loop-place.invariant.test
