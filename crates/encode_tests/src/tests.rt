@@ -1,5 +1,6 @@
 //! A module for each subject.
 
 mod asking;
+mod enumerated;
 mod given;
 mod patterns;
