@@ -1,7 +1,7 @@
 -- The inputs in terms, and environments that fit them.
 use Rattle.std.proofs.Common.{◌≡◌, ◌∙◌, ℕ, suc, ◌<◌, ◌≤◌, ◌==◌, ◌&&◌, ◌||◌, ◌↔◌, ◌⊎◌, Bool, true, false, not}
-use Rattle.std.proofs.Common.{List, [], ◌∷◌, map, Option, Some, None, IsSome, Contains, length, slice_get, refl, sym, ap}
-use Rattle.std.proofs.Common.{subst, inl, inr, arith, unwrap_or}
+use Rattle.std.proofs.Common.{List, [], ◌∷◌, map, Option, Some, None, IsSome, Contains, length, slice_get, refl, sym}
+use Rattle.std.proofs.Common.{ap, subst, inl, inr, arith, unwrap_or}
 use Rattle.std.specs.Prelude.{IsTrue}
 use Rattle.std.specs.List.{filter_map, list_all, cons_option}
 use Rattle.std.proofs.lemmas.Bool.{eq-eqb}
@@ -183,7 +183,8 @@ own-input p k r ts s h =
 
 -- the environment fits each input that stands in the term
 abbrev pub FitEach : List Value → (Term → Type 0) → Type 0
-FitEach env Stands = (number : ℕ) (r : Sort) → Stands (Apply (op.Input number r) End) → InputFits env (op.Input number r)
+FitEach env Stands =
+    (number : ℕ) (r : Sort) → Stands (Apply (op.Input number r) End) → InputFits env (op.Input number r)
 
 own-fits : (p : ℕ) (env : List Value) (o : Op) (ts : Operands) (s : Sort) → sort_of p (Apply o ts) ≡ Some s
     → FitEach env (λ t. IsSubterm t (Apply o ts)) → InputFits env o

@@ -1,5 +1,5 @@
-mod ValueLemmas
-mod InputLemmas
-mod WitnessLemmas
+pub mod ValueLemmas
+pub mod InputLemmas
+pub mod WitnessLemmas
 mod RefutedLemmas
 mod SessionLemmas

@@ -1,6 +1,6 @@
 -- The values that a model gives the inputs make the formulas true.
-use Rattle.std.proofs.Common.{◌≡◌, ◌∙◌, ℕ, ◌+◌, ◌<◌, ◌≤◌, ◌==◌, ◌&&◌, ◌||◌, ◌⊎◌, Bool, true, false, List, [], ◌∷◌, map, length}
-use Rattle.std.proofs.Common.{slice_get, Some, All, Contains, refl, sym, ap, subst, inl, inr, arith}
+use Rattle.std.proofs.Common.{◌≡◌, ◌∙◌, ℕ, ◌+◌, ◌<◌, ◌≤◌, ◌==◌, ◌&&◌, ◌||◌, ◌⊎◌, Bool, true, false, List, [], ◌∷◌, map}
+use Rattle.std.proofs.Common.{length, slice_get, Some, All, Contains, refl, sym, ap, subst, inl, inr, arith}
 use Rattle.std.specs.Prelude.{IsTrue}
 use Rattle.std.specs.List.{AllByRecursion, list_any}
 use Rattle.std.proofs.lemmas.Bool.{eq-eqb}
@@ -53,7 +53,7 @@ abbrev pub AreOnce : List Listed → Type 0
 AreOnce bits = (i j number k x y : ℕ) → slice_get bits i ≡ Some (number, k, x) → slice_get bits j ≡ Some (number, k, y)
     → i ≡ j
 
-once-any : (v : ℕ → Bool) (bits : List Listed) → AreOnce bits → (b : Listed) → In bits b
+pub once-any : (v : ℕ → Bool) (bits : List Listed) → AreOnce bits → (b : Listed) → In bits b
     → list_any (is_set v b.0 b.1) bits ≡ v b.2
 once-any v bits once b at = same_test (list_any (is_set v b.0 b.1) bits) (v b.2) to from
   where

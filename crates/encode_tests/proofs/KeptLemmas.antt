@@ -1,5 +1,5 @@
 -- What is given for a formula is given for one that keeps its goal and its operations.
-use Rattle.std.proofs.Common.{◌≡◌, ℕ, List, sym, subst}
+use Rattle.std.proofs.Common.{ℕ, List, sym, subst}
 use Rattle.isel_spec.specs.declared.spec.Spec.{Spec}
 use Rattle.pattern_core.specs.declared.pattern.Example.{Example}
 use Rattle.pattern_core.specs.declared.pattern.Pattern.{Pattern}

@@ -1,5 +1,5 @@
-//! Formulas over bit-vectors as text, in the form of SMT-LIB 2.6. They are over bit-vectors `x`, `y`, `z` and `r` of one
-//! width and a truth value `b`, which are the inputs 0 to 4.
+//! Formulas over bit-vectors as text, in the form of SMT-LIB 2.6. They are over bit-vectors `x`, `y`, `z` and `r` of
+//! one width and a truth value `b`, which are the inputs 0 to 4.
 #![tactic(auto)]
 
 ghost use Rattle.std.specs.Prelude.{◌<◌, length, IfOk};

@@ -1,8 +1,9 @@
 pub mod Compared
+pub mod NumberLemmas
 pub mod TaskLemmas
 pub mod MemoryTests
-pub mod WideTests
 pub mod CauseLemmas
+pub mod ClaimLemmas
 pub mod AnswerLemmas
 pub mod LineLemmas
 pub mod ReasonLemmas

@@ -1,6 +1,6 @@
 -- The lines that a failed task writes, and what follows from them.
 use Rattle.std.proofs.Common.{◌≡◌, ◌≢◌, ℕ, ◌<◌, List, [], length, take, Option, Some, None, codes, ◌⊎◌}
-use Rattle.std.proofs.Common.{inl, inr, refl, ap, subst, ◌∙◌, sym, arith, append-nil}
+use Rattle.std.proofs.Common.{inl, inr, refl, ap, subst, ◌∙◌, sym, arith, append-nil, Bool, true, false}
 use Rattle.std.specs.Prelude.{IfSome}
 use Rattle.isel_base.specs.Outside.{HasPrefix}
 use Rattle.isel_spec.specs.File.{File}
@@ -9,12 +9,24 @@ use Rattle.isel_cmd.specs.declared.refusal.Failure.{Failure}
 use Rattle.isel_cmd.specs.declared.refusal.Failure.TheVariants as failure
 use Rattle.isel_cmd.specs.Words.{Task, file_of, bound_of}
 use Rattle.isel_cmd.specs.Refusal.{IsReason, reason_text, refusal_line}
-use Rattle.isel_cmd.specs.Status.{failure_status, failure_line, unread_line, memory_line}
+use Rattle.isel_cmd.specs.Status.{done_status, IsDone, failure_status, failure_line, unread_line, memory_line}
 use Rattle.isel_cmd.specs.Program.{Told, IsWork, IsRefused, IsCause, with_text, IsNote}
 use Rattle.isel_cmd.specs.Program.{Writes, WritesAtMostPart, IsSomeNote, IsAccepted, IsTaskStatus}
 use Rattle.isel_cmd.proofs.LineLemmas.{part_is_no_line, part_is_no_named_line, line_is_some}
 use Rattle.isel_cmd.proofs.ReasonLemmas.{reason_has_no_feed, memory_differs, unread_differs}
 use Rattle.isel_cmd.proofs.OutcomeLemmas.{one_reason, no_reason}
+
+-- ---- the work is done
+
+pub done_is : (status : ℕ) (is_open : Bool) → status ≡ done_status is_open → IsDone status
+done_is status false e = inl e
+done_is status true e = inr e
+
+-- a status of work that is done, where a write may have failed
+pub done_as : (status : ℕ) (is_open : Bool) → IsDone status → ((status ≡ done_status is_open) ⊎ (status ≡ 5))
+    → status ≡ done_status is_open
+done_as status is_open done (inl same) = same
+done_as status is_open done (inr five) = absurd (omega (arith, done, five))
 
 -- ---- a task that is done writes no line
 
@@ -23,13 +35,13 @@ nothing_more None = refl
 nothing_more (Some text) = ap Some (sym (append-nil text))
 
 pub no_note : (told : Told) (failed : List ℕ → Type 0) (task : Task) (status : ℕ) (old : Option (List ℕ))
-    → status ≡ 0 → Writes (IsNote told failed task status) old old
+    → IsDone status → Writes (IsNote told failed task status) old old
 no_note told failed task status old done = ([], inl (done, refl), nothing_more old)
 
 -- ---- the line of a failure
 
 refused_note : (told : Told) (failed : List ℕ → Type 0) (task : Task) (failure : Failure)
-    → IsCause told failed task failure
+    → IsCause told failed (file_of task) (bound_of task) failure
     → IsNote told failed task (failure_status failure) (failure_line (file_of task) failure)
 refused_note told failed task (failure.Refused reason) why = inr (inl (refl, (reason, why, refl)))
 refused_note told failed task failure.ReadFault why = inr (inr (inl (refl, (why, refl))))
@@ -41,7 +53,7 @@ memory_note told failed task status six = inr (inr (inr (six, refl)))
 
 -- the whole line was written
 pub failure_note : (told : Told) (failed : List ℕ → Type 0) (task : Task) (failure : Failure) (status : ℕ)
-    (old new : Option (List ℕ)) → IsCause told failed task failure
+    (old new : Option (List ℕ)) → IsCause told failed (file_of task) (bound_of task) failure
     → ((status ≡ failure_status failure) ⊎ (status ≡ 5) ⊎ (status ≡ 6))
     → (status ≢ 5 → status ≢ 6 → new ≡ with_text (failure_line (file_of task) failure) old)
     → (status ≡ 6 → new ≡ with_text memory_line old) → status ≢ 5 → Writes (IsNote told failed task status) old new
@@ -60,7 +72,7 @@ failure_note told failed task failure.NoMemory status old new why (inl same) who
 
 -- a part of it was written
 pub cut_note : (told : Told) (failed : List ℕ → Type 0) (task : Task) (failure : Failure) (old new : Option (List ℕ))
-    → IsCause told failed task failure
+    → IsCause told failed (file_of task) (bound_of task) failure
     → (HasPrefix old (failure_line (file_of task) failure) new ⊎ HasPrefix old memory_line new)
     → WritesAtMostPart (IsSomeNote told failed task) old new
 cut_note told failed task failure old new why (inl cut) = inr (
@@ -82,7 +94,7 @@ failed_status failure.ReadFault status (inl same) = inr (inr (inl same))
 failed_status failure.NoMemory status (inl same) = inr (inr (inr (inr same)))
 
 pub failed_not_done : (failure : Failure) (status : ℕ)
-    → ((status ≡ failure_status failure) ⊎ (status ≡ 5) ⊎ (status ≡ 6)) → status ≡ 0 → ⊥
+    → ((status ≡ failure_status failure) ⊎ (status ≡ 5) ⊎ (status ≡ 6)) → IsDone status → ⊥
 failed_not_done failure status (inr why) done = omega (arith, why, done)
 failed_not_done (failure.Refused reason) status (inl same) done = omega (arith, same, done)
 failed_not_done failure.ReadFault status (inl same) done = omega (arith, same, done)
@@ -164,9 +176,9 @@ line_of_reason told task bytes text reason e why (other, (found, has, is), same)
     same ∙ ap (refusal_line (file_of task)) one
 
 -- refused bytes of a name have no library
-pub no_work : (told : Told) (task : Task) (bytes text : List ℕ) (reason : Reason) → told (file_of task) ≡ Some bytes
-    → IsReason bytes (bound_of task) reason → IsWork told task text → ⊥
-no_work told task bytes text reason e why (found, has, library) =
+pub no_work : (told : Told) (task : Task) (status : ℕ) (bytes text : List ℕ) (reason : Reason)
+    → told (file_of task) ≡ Some bytes → IsReason bytes (bound_of task) reason → IsWork told task status text → ⊥
+no_work told task status bytes text reason e why (found, has, library) =
     let there : found ≡ bytes = same_bytes (told (file_of task)) bytes found e has in
     no_reason bytes (bound_of task) library.file reason
     (subst (λ (b : List ℕ). IsAccepted b (bound_of task) library.file) there library.accepted) why
@@ -183,8 +195,8 @@ not_refused told task bytes text f e accepted (reason, (found, has, is), same) =
 pub complete_from : (told : Told) (failed : List ℕ → Type 0) (task : Task) (status : ℕ) (old new : Option (List ℕ))
     (bytes : List ℕ) (f : File) (B C : Type 0) → IsTaskStatus status → told (file_of task) ≡ Some bytes
     → IsAccepted bytes (bound_of task) f → (status ≢ 5 → Writes (IsNote told failed task status) old new)
-    → (status ≡ 5 → B ⊎ C) → (failed (file_of task) → ⊥) → (B → ⊥) → (C → ⊥) → (status ≡ 0) ⊎ (status ≡ 6)
-complete_from told failed task status old new bytes f B C (inl zero) e accepted line fault a b c = inl zero
+    → (status ≡ 5 → B ⊎ C) → (failed (file_of task) → ⊥) → (B → ⊥) → (C → ⊥) → IsDone status ⊎ (status ≡ 6)
+complete_from told failed task status old new bytes f B C (inl done) e accepted line fault a b c = inl done
 complete_from told failed task status old new bytes f B C (inr (inl three)) e accepted line fault a b c =
     let note = line (λ five. omega (arith, three, five)) in
     absurd (not_refused told task bytes note.0 f e accepted
@@ -195,7 +207,7 @@ complete_from told failed task status old new bytes f B C (inr (inr (inl four)))
 complete_from told failed task status old new bytes f B C (inr (inr (inr (inl five)))) e accepted line fault a b c =
     by (fault five)
   where
-    by : B ⊎ C → (status ≡ 0) ⊎ (status ≡ 6)
+    by : B ⊎ C → IsDone status ⊎ (status ≡ 6)
     by (inl x) = absurd (b x)
     by (inr x) = absurd (c x)
 complete_from told failed task status old new bytes f B C (inr (inr (inr (inr six)))) e accepted line fault a b c =

@@ -1,7 +1,6 @@
 -- Bytes have one reason to be refused, and those of an accepted file have none.
 use Rattle.std.proofs.Common.{◌≡◌, ℕ, ◌<◌, ◌≤◌, List, length, Result, Err, inl, inr, refl, sym, ap, subst, ◌∙◌}
 use Rattle.std.proofs.Common.{arith}
-use Rattle.std.proofs.lemmas.List.Elements.{All-contains}
 use Rattle.sexp_read.specs.declared.forest.Forest.{Forest}
 use Rattle.sexp_read.specs.declared.fault.SexpFault.{SexpFault}
 use Rattle.sexp_read.specs.Token.{tokens}
@@ -9,17 +8,18 @@ use Rattle.sexp_read.specs.Tree.{Trees, list_of}
 use Rattle.sexp_read.specs.Fault.{IsFault}
 use Rattle.sexp_read.specs.Forest.{places, items_of}
 use Rattle.sexp_read.proofs.FaultLemmas.{fault-unique, trees-unique, reading-faultless}
-use Rattle.isel_spec.specs.File.{File, Goal}
+use Rattle.isel_spec.specs.File.{File}
 use Rattle.spec_reader.specs.declared.fault.SpecFault.{SpecFault}
 use Rattle.spec_reader.specs.declared.fault.SpecKind.{SpecKind}
 use Rattle.spec_reader.specs.Walk.{file_read}
 use Rattle.spec_reader.specs.Outcome.{IsOutcome, AreTrees, text_fault}
 use Rattle.spec_reader.specs.File.{IsFile}
 use Rattle.spec_reader.proofs.FileLemmas.{file-is-read, every-file, no-fault}
-use Rattle.plain_search.specs.Extent.{CanSearch}
+use Rattle.multiset_rank.specs.Claims.{claim_count}
 use Rattle.isel_cmd.specs.declared.refusal.Reason.{Reason}
-use Rattle.isel_cmd.specs.declared.refusal.Reason.TheVariants.{TooLong, Faulty, MemLater, Wide}
-use Rattle.isel_cmd.specs.Refusal.{line_at, column_at, HasMemory, IsWide, IsFaultAt, IsReason}
+use Rattle.isel_cmd.specs.declared.refusal.Reason.TheVariants.{TooLong, Faulty, MemLater, TooMany}
+use Rattle.isel_cmd.specs.Refusal.{most_claims, plan_of, line_at, column_at, HasMemory}
+use Rattle.isel_cmd.specs.Refusal.{IsFaultAt, IsReason}
 use Rattle.isel_cmd.specs.Program.{IsAccepted}
 
 -- bytes that are trees have no fault of their lists
@@ -88,33 +88,33 @@ pub one_reason : (bytes : List ℕ) (bound : ℕ) (a b : Reason) → IsReason by
 one_reason bytes bound TooLong TooLong p q = refl
 one_reason bytes bound TooLong (Faulty k row column) p q = absurd (too_long _ _ q.0 p)
 one_reason bytes bound TooLong MemLater p q = absurd (too_long _ _ q.0 p)
-one_reason bytes bound TooLong Wide p q = absurd (too_long _ _ q.0 p)
+one_reason bytes bound TooLong TooMany p q = absurd (too_long _ _ q.0 p)
 one_reason bytes bound (Faulty k row column) TooLong p q = absurd (too_long _ _ p.0 q)
 one_reason bytes bound (Faulty j row column) (Faulty k other_row other_column) p q =
     same_place bytes j k row column other_row other_column p.1 q.1
 one_reason bytes bound (Faulty k row column) MemLater p q =
     absurd (no-fault bytes q.1.0 p.1.fault q.1.1 p.1.first)
-one_reason bytes bound (Faulty k row column) Wide p q =
+one_reason bytes bound (Faulty k row column) TooMany p q =
     absurd (no-fault bytes q.1.0 p.1.fault q.1.1 p.1.first)
 one_reason bytes bound MemLater TooLong p q = absurd (too_long _ _ p.0 q)
 one_reason bytes bound MemLater (Faulty k row column) p q =
     absurd (no-fault bytes p.1.0 q.1.fault p.1.1 q.1.first)
 one_reason bytes bound MemLater MemLater p q = refl
-one_reason bytes bound MemLater Wide p q =
+one_reason bytes bound MemLater TooMany p q =
     absurd (not_both bytes p.1.0 q.1.0 p.1.1 q.1.1 p.1.2 q.1.2)
-one_reason bytes bound Wide TooLong p q = absurd (too_long _ _ p.0 q)
-one_reason bytes bound Wide (Faulty k row column) p q =
+one_reason bytes bound TooMany TooLong p q = absurd (too_long _ _ p.0 q)
+one_reason bytes bound TooMany (Faulty k row column) p q =
     absurd (no-fault bytes p.1.0 q.1.fault p.1.1 q.1.first)
-one_reason bytes bound Wide MemLater p q =
+one_reason bytes bound TooMany MemLater p q =
     absurd (not_both bytes q.1.0 p.1.0 q.1.1 p.1.1 q.1.2 p.1.2)
-one_reason bytes bound Wide Wide p q = refl
+one_reason bytes bound TooMany TooMany p q = refl
 
--- some goal of a file is too wide, and none is
-not_wide : (bytes : List ℕ) (bound : ℕ) (f g : File) → IsAccepted bytes bound f → IsFile bytes g → IsWide g bound → ⊥
-not_wide bytes bound f g accepted is wide =
-    let h : IsWide f bound =
-    subst (λ (x : File). IsWide x bound) (one_file bytes g f is accepted.is_file) wide in
-    h.2 (All-contains (λ (x : Goal). CanSearch f x bound) f.goals h.0 accepted.searchable h.1)
+-- a file has too many claims, and has not
+not_many : (bytes : List ℕ) (bound : ℕ) (f g : File) → IsAccepted bytes bound f → IsFile bytes g
+    → most_claims < claim_count (plan_of g bound) → ⊥
+not_many bytes bound f g accepted is many =
+    too_long (claim_count (plan_of f bound)) most_claims accepted.few
+    (subst (λ (x : File). most_claims < claim_count (plan_of x bound)) (one_file bytes g f is accepted.is_file) many)
 
 -- an accepted file has no reason to be refused
 pub no_reason : (bytes : List ℕ) (bound : ℕ) (f : File) (reason : Reason) → IsAccepted bytes bound f
@@ -124,5 +124,5 @@ no_reason bytes bound f (Faulty k row column) accepted why =
     no-fault bytes f why.1.fault accepted.is_file why.1.first
 no_reason bytes bound f MemLater accepted why =
     not_both bytes why.1.0 f why.1.1 accepted.is_file why.1.2 accepted.no_memory
-no_reason bytes bound f Wide accepted why =
-    not_wide bytes bound f why.1.0 accepted why.1.1 why.1.3
+no_reason bytes bound f TooMany accepted why =
+    not_many bytes bound f why.1.0 accepted why.1.1 why.1.3

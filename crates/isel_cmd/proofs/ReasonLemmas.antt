@@ -9,7 +9,7 @@ use Rattle.pattern_text.specs.Text.{line}
 use Rattle.spec_reader.specs.declared.fault.SpecKind.{SpecKind}
 use Rattle.spec_reader.specs.declared.fault.SpecKind.TheVariants as kind
 use Rattle.isel_cmd.specs.declared.refusal.Reason.{Reason}
-use Rattle.isel_cmd.specs.declared.refusal.Reason.TheVariants.{TooLong, Faulty, MemLater, Wide}
+use Rattle.isel_cmd.specs.declared.refusal.Reason.TheVariants.{TooLong, Faulty, MemLater, TooMany}
 use Rattle.isel_cmd.specs.Refusal.{most_bytes, is_line_feed, is_in_line, line_at, column_at, IsReason, kind_name}
 use Rattle.isel_cmd.specs.Refusal.{reason_text, refusal_line}
 use Rattle.isel_cmd.specs.Status.{unread_line, memory_line}
@@ -64,7 +64,7 @@ reason_has_no_feed bytes bound (Faulty k row column) why =
     ∙ decimal_has_no_feed (column_at bytes why.1.fault.from) (column_is_small bytes why.1.fault.from why.0))
     (kind_has_no_feed k)
 reason_has_no_feed bytes bound MemLater why = refl
-reason_has_no_feed bytes bound Wide why = refl
+reason_has_no_feed bytes bound TooMany why = refl
 
 -- ---- other lines
 
@@ -72,7 +72,7 @@ reason_has_colon : (reason : Reason) → has 58 (line (reason_text reason)) ≡ 
 reason_has_colon TooLong = refl
 reason_has_colon (Faulty k row column) = refl
 reason_has_colon MemLater = refl
-reason_has_colon Wide = refl
+reason_has_colon TooMany = refl
 
 pub memory_differs : (name : List ℕ) (reason : Reason) → memory_line ≡ refusal_line name reason → ⊥
 memory_differs name reason e =
@@ -97,8 +97,8 @@ unread_text_differs (Faulty k row column) e =
     ∙ fault_has_colon (decimal row) (decimal column) (kind_name k))
 unread_text_differs MemLater e =
     let bytes : 82 ≡ 77 = ap (λ (l : List ℕ). get_or l 2 0) e in omega (arith, bytes)
-unread_text_differs Wide e =
-    let bytes : 82 ≡ 87 = ap (λ (l : List ℕ). get_or l 2 0) e in omega (arith, bytes)
+unread_text_differs TooMany e =
+    let bytes : 82 ≡ 84 = ap (λ (l : List ℕ). get_or l 2 0) e in omega (arith, bytes)
 
 pub unread_differs : (name : List ℕ) (reason : Reason) → unread_line name ≡ refusal_line name reason → ⊥
 unread_differs name reason e = unread_text_differs reason (append_cancel_left name _ _ e)

@@ -5,7 +5,7 @@ use Rattle.isel_cmd.specs.declared.words.Command.{Command}
 use Rattle.isel_cmd.specs.declared.words.Command.TheVariants as command
 
 abbrev pub task_of : Command → Task
-task_of (command.Synth file bound) = Synth file.now bound
+task_of (command.Synth file bound budget) = Synth file.now bound budget
 
 abbrev pub IsCommand : List (List ℕ) → Command → Type 0
 IsCommand words command = IsTask words (task_of command)

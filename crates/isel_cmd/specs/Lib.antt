@@ -3,3 +3,5 @@ pub mod Command
 pub mod Refusal
 pub mod Status
 pub mod Program
+pub mod Accepted
+pub mod Work

@@ -11,9 +11,10 @@ use Rattle.spec_reader.specs.declared.fault.SpecKind.TheVariants as kind
 use Rattle.spec_reader.specs.Outcome.{IsOutcome}
 use Rattle.spec_reader.specs.File.{IsFile}
 use Rattle.pattern_text.specs.Text.{line}
-use Rattle.plain_search.specs.Extent.{CanSearch, is_value}
+use Rattle.multiset_rank.specs.Claims.{Plan, claim_count}
+use Rattle.plain_search.specs.Extent.{is_value}
 use Rattle.isel_cmd.specs.declared.refusal.Reason.{Reason}
-use Rattle.isel_cmd.specs.declared.refusal.Reason.TheVariants.{TooLong, Faulty, MemLater, Wide}
+use Rattle.isel_cmd.specs.declared.refusal.Reason.TheVariants.{TooLong, Faulty, MemLater, TooMany}
 
 -- the most bytes of a file
 abbrev pub most_bytes : ℕ
@@ -43,9 +44,13 @@ HasMemory f =
 abbrev pub goal_takes_values : Goal → Bool
 goal_takes_values g = list_all is_value g.args
 
--- some goal has too many inputs or attributes for patterns of so many operations
-abbrev pub IsWide : File → ℕ → Type 0
-IsWide f bound = (g : Goal) × Contains f.goals g × (CanSearch f g bound → ⊥)
+-- the claims of a file: its goals, each with each multiset of at most so many operations
+abbrev pub plan_of : File → ℕ → Plan
+plan_of f bound = record { goals = length f.goals; kinds = length f.ops; bound = bound }
+
+-- the most claims of a file
+abbrev pub most_claims : ℕ
+most_claims = 2 ^ 20
 
 -- the fault of that kind, in that line and column, is the first of the bytes
 pub record IsFaultAt (bytes : List ℕ) (k : SpecKind) (row column : ℕ) : Type 0 where
@@ -56,13 +61,14 @@ pub record IsFaultAt (bytes : List ℕ) (k : SpecKind) (row column : ℕ) : Type
   pub column_is : column ≡ column_at bytes fault.from
 
 -- the bytes of a file are refused for this reason: there are too many; they are no file; the file has a memory, which
--- the search does not take yet; or it has none, and a goal is too wide for the search
+-- the search does not take yet; or it has none, and there are too many claims
 abbrev pub IsReason : List ℕ → ℕ → Reason → Type 0
 IsReason bytes bound TooLong = most_bytes < length bytes
 IsReason bytes bound (Faulty k row column) = (length bytes ≤ most_bytes) × IsFaultAt bytes k row column
 IsReason bytes bound MemLater = (length bytes ≤ most_bytes) × ((f : File) × IsFile bytes f × HasMemory f)
-IsReason bytes bound Wide =
-    (length bytes ≤ most_bytes) × ((f : File) × IsFile bytes f × (HasMemory f → ⊥) × IsWide f bound)
+IsReason bytes bound TooMany =
+    (length bytes ≤ most_bytes)
+    × ((f : File) × IsFile bytes f × (HasMemory f → ⊥) × (most_claims < claim_count (plan_of f bound)))
 
 abbrev pub kind_name : SpecKind → List ℕ
 kind_name kind.NotText = codes "NotText"
@@ -88,7 +94,7 @@ reason_text TooLong = codes ": TooLong"
 reason_text (Faulty k row column) =
     codes ":" ++ decimal row ++ codes ":" ++ decimal column ++ codes ": " ++ kind_name k
 reason_text MemLater = codes ": MemLater"
-reason_text Wide = codes ": Wide"
+reason_text TooMany = codes ": TooMany"
 
 -- the line of a refused file
 abbrev pub refusal_line : List ℕ → Reason → List ℕ

@@ -1,19 +1,30 @@
 -- The numbers of the statuses, and of those of failures.
-use Rattle.std.specs.Prelude.{ℕ, List, ◌++◌, codes}
+use Rattle.std.specs.Prelude.{◌≡◌, ℕ, List, ◌++◌, codes, Bool, true, false, ◌⊎◌}
 use Rattle.pattern_text.specs.Text.{line}
 use Rattle.isel_cmd.specs.declared.status.Status.{Status}
-use Rattle.isel_cmd.specs.declared.status.Status.TheVariants.{Done, NoForm, Refused, ReadFailed, WriteFailed, NoMemory}
+use Rattle.isel_cmd.specs.declared.status.Status.TheVariants.{Done, Open, NoForm, Refused, ReadFailed}
+use Rattle.isel_cmd.specs.declared.status.Status.TheVariants.{WriteFailed, NoMemory}
 use Rattle.isel_cmd.specs.declared.refusal.Failure.{Failure}
 use Rattle.isel_cmd.specs.declared.refusal.Failure.TheVariants as failure
 use Rattle.isel_cmd.specs.Refusal.{refusal_line}
 
 abbrev pub number_of : Status → ℕ
 number_of Done = 0
+number_of Open = 1
 number_of NoForm = 2
 number_of Refused = 3
 number_of ReadFailed = 4
 number_of WriteFailed = 5
 number_of NoMemory = 6
+
+-- the status where the work is done, by whether a claim is listed as undecided
+abbrev pub done_status : Bool → ℕ
+done_status false = 0
+done_status true = 1
+
+-- the work is done
+abbrev pub IsDone : ℕ → Type 0
+IsDone status = (status ≡ 0) ⊎ (status ≡ 1)
 
 abbrev pub failure_status : Failure → ℕ
 failure_status (failure.Refused reason) = 3

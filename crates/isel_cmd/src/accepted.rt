@@ -1,22 +1,32 @@
-//! The named file, where it is not refused: its bytes are read, they are a file, and the search takes its goals.
+//! The named file, where it is not refused: its bytes are read, they are a file without memory, and there are not too
+//! many claims.
 
-ghost use Rattle.std.specs.Prelude.{◌≡◌, ◌≤◌, ◌↔◌, ℕ, List, length, All, IsTrue, IsErrOf, MatchBool, MatchResult};
+ghost use Rattle.std.specs.Prelude.{◌≡◌, ◌≤◌, ◌<◌, ◌↔◌, ℕ, List, length, IsTrue, IsErrOf, MatchResult};
 ghost use Rattle.std.specs.List.{list_all};
-ghost use Rattle.isel_spec.specs.File.{Goal, sorts_in};
+ghost use Rattle.isel_spec.specs.File.{sorts_in};
 ghost use Rattle.isel_spec.specs.Spec.{file};
-ghost use Rattle.plain_search.specs.Extent.{is_value, takes_values, CanSearch};
+ghost use Rattle.multiset_rank.specs.Claims.{claim_count};
+ghost use Rattle.plain_search.specs.Extent.{is_value, takes_values};
+ghost use Rattle.spec_reader.specs.File.{IsFile};
 ghost use Rattle.isel_base.specs.Outside.{Rose, ReadsOnly};
-ghost use Rattle.isel_cmd.specs.Words.{Synth};
-ghost use Rattle.isel_cmd.specs.Refusal.{HasMemory, IsWide, most_bytes, goal_takes_values};
-ghost use Rattle.isel_cmd.specs.Program.{HasBytes, IsAccepted, IsCause, IsCauseIn};
+ghost use Rattle.isel_cmd.specs.Accepted.{IsAcceptedAs};
+ghost use Rattle.isel_cmd.specs.Refusal.{HasMemory, most_bytes, most_claims, plan_of, goal_takes_values};
+ghost use Rattle.isel_cmd.specs.Program.{HasBytes, IsCause, IsCauseIn};
 
 use crate::refusal::{Failure, Reason, failure_of};
 use bv_terms::Sort;
 use isel_base::{Files, ReadAllFault, read_all};
 use isel_spec::{Kind, Spec};
-use plain_search::can_search;
+use multiset_rank::{ClaimPlan, TooMany};
 use spec_reader::read_spec;
 use std::alloc::Global;
+
+/// A file that is not refused, and its claims.
+#[derive(Drop)]
+pub(crate) struct AcceptedFile {
+    pub(crate) spec: Spec,
+    pub(crate) plan: ClaimPlan,
+}
 
 /// Whether none of these sorts is a memory.
 fn are_values(sorts: &[Sort]) -> bool
@@ -76,23 +86,22 @@ fn has_memory(spec: &Spec) -> bool
     !do_goals_take_values(spec)
 }
 
-/// Whether some goal is too wide for the search; where none is, it takes each of them.
-fn is_wide(spec: &Spec, bound: u8) -> bool
-    ensures { MatchBool result (IsWide (file spec.now) bound)
-        (All (λ (g : Goal). CanSearch (file spec.now) g bound) (file spec.now).goals) }
+/// The claims of a file; an `Err`, where there are too many.
+fn planned(spec: &Spec, bound: u8) -> Result<ClaimPlan, TooMany>
+    requires file { (bytes : List ℕ) × IsFile bytes (file spec.now) }
+    requires bound { bound ≤ 6 }
+    ensures { MatchResult result
+        (λ plan. (plan ≡ plan_of (file spec.now) bound) × (claim_count (plan_of (file spec.now) bound) ≤ most_claims))
+        (λ fault. most_claims < claim_count (plan_of (file spec.now) bound)) }
 {
-    for goal in 0..spec.goals.len() as u32 {
-        if !can_search(spec, goal, bound) {
-            return true;
-        }
-    }
-    false
+    ClaimPlan::new(spec.goals.len() as u32, spec.ops.len() as u32, bound)
 }
 
 /// The file that bytes are, where it is not refused.
-fn accepted_in(alloc: Global, bytes: &[u8], bound: u8) -> Result<Spec, Failure>
+fn accepted_in(alloc: Global, bytes: &[u8], bound: u8) -> Result<AcceptedFile, Failure>
     requires short { length bytes.now ≤ most_bytes }
-    ensures { MatchResult result (λ spec. IsAccepted bytes.now bound (file spec)) (IsCauseIn bytes.now bound) }
+    requires bound { bound ≤ 6 }
+    ensures { MatchResult result (IsAcceptedAs bytes.now bound) (IsCauseIn bytes.now bound) }
 {
     let spec = match read_spec(alloc, bytes) {
         Ok(spec) => spec,
@@ -101,18 +110,18 @@ fn accepted_in(alloc: Global, bytes: &[u8], bound: u8) -> Result<Spec, Failure>
     if has_memory(&spec) {
         return Err(Failure::Refused(Reason::MemLater));
     }
-    if is_wide(&spec, bound) {
-        return Err(Failure::Refused(Reason::Wide));
+    match planned(&spec, bound) {
+        Ok(plan) => Ok(AcceptedFile { spec, plan }),
+        Err(_) => Err(Failure::Refused(Reason::TooMany)),
     }
-    Ok(spec)
 }
 
 /// The bytes of the file of that name.
 fn bytes_of<F: Files>(alloc: Global, files: &mut F, name: &str) -> Result<Vec<u8>, Failure>
     ensures bytes { (bound : ℕ) → MatchResult result
         (λ bytes. HasBytes (F.bytes files.old) name.now bytes.items × (length bytes.items ≤ most_bytes))
-        (IsCause (F.bytes files.old) (λ other. Rose (F.faults files.old other) (F.faults files.new other))
-        (Synth name.now bound)) }
+        (IsCause (F.bytes files.old) (λ other. Rose (F.faults files.old other) (F.faults files.new other)) name.now
+        bound) }
     ensures only { ReadsOnly F.read_leaves name.now files.old files.new }
     ensures steady { IsTrue (F.never_fails files.old name.now) → ¬ IsErrOf result Failure.ReadFault }
     ensures counts { (other : List ℕ) → F.faults files.old other ≤ F.faults files.new other }
@@ -134,11 +143,12 @@ pub(crate) fn accepted<F: Files>(
     files: &mut F,
     name: &str,
     bound: u8,
-) -> Result<Spec, Failure>
+) -> Result<AcceptedFile, Failure>
+    requires { bound ≤ 6 }
     ensures outcome { MatchResult result
-        (λ spec. (bytes : List ℕ) × HasBytes (F.bytes files.old) name.now bytes × IsAccepted bytes bound (file spec))
-        (IsCause (F.bytes files.old) (λ other. Rose (F.faults files.old other) (F.faults files.new other))
-        (Synth name.now bound)) }
+        (λ a. (bytes : List ℕ) × HasBytes (F.bytes files.old) name.now bytes × IsAcceptedAs bytes bound a)
+        (IsCause (F.bytes files.old) (λ other. Rose (F.faults files.old other) (F.faults files.new other)) name.now
+        bound) }
     ensures only { ReadsOnly F.read_leaves name.now files.old files.new }
     ensures steady { IsTrue (F.never_fails files.old name.now) → ¬ IsErrOf result Failure.ReadFault }
     ensures counts { (other : List ℕ) → F.faults files.old other ≤ F.faults files.new other }

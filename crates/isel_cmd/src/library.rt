@@ -1,62 +1,93 @@
-//! The library of a file: an answer for each of its goals, and the text of these answers.
+//! The library of a file: what became of each of its claims, the answers for its goals, and their text.
 
-ghost use Rattle.std.specs.Prelude.{◌≡◌, ◌≤◌, ◌<◌, All, Some, IfOk, length, slice_get};
-ghost use Rattle.std.specs.String.{string_bytes};
-ghost use Rattle.isel_spec.specs.File.{Goal};
+ghost use Rattle.std.specs.Prelude.{◌≡◌, ◌≤◌, IfOk, length};
+ghost use Rattle.std.specs.List.{list_any};
 ghost use Rattle.isel_spec.specs.Spec.{file};
-ghost use Rattle.pattern_core.specs.declared.pattern.GoalAnswer.{GoalAnswer};
-ghost use Rattle.pattern_core.specs.Library.{IsAnswer};
-ghost use Rattle.pattern_core.specs.Pattern.{Pairwise};
-ghost use Rattle.plain_search.specs.Extent.{CanSearch};
-ghost use Rattle.isel_cmd.specs.Program.{IsLibraryText};
+ghost use Rattle.multiset_rank.specs.Claims.{claims};
+ghost use Rattle.rule_library.specs.Book.{IsPlanOf, IsBook, AreRight};
+ghost use Rattle.isel_cmd.specs.Refusal.{HasMemory};
+ghost use Rattle.isel_cmd.specs.Program.{lists_open};
+ghost use Rattle.isel_cmd.specs.Work.{IsTextOf};
 
-use collections::Seq;
+use cegis_loop::settle;
+use claim_outcome::Outcome;
 use isel_spec::Spec;
+use multiset_rank::ClaimPlan;
 use pattern_core::GoalAnswer;
 use pattern_text::write_library;
-use plain_search::search;
+use rule_library::finish_book;
 use std::alloc::{AllocError, Global};
 
-/// The answer for the goal of that number.
-fn answer(alloc: Global, spec: &Spec, goal: u32, bound: u8) -> Result<GoalAnswer, AllocError>
-    requires there { goal < length spec.now.goals }
-    requires bound { bound ≤ 6 }
-    requires searchable { (g : Goal) → slice_get (file spec.now).goals goal ≡ Some g →
-        CanSearch (file spec.now) g bound }
-    ensures { (g : Goal) → slice_get (file spec.now).goals goal ≡ Some g →
-        IfOk result (IsAnswer (file spec.now) g bound) }
-{
-    let rules = search(alloc, spec, goal, bound)?;
-    let Some(first) = rules.first() else {
-        return Ok(GoalAnswer::None);
-    };
-    let size = first.nodes.len() as u8;
-    Ok(GoalAnswer::Complete {
-        size,
-        rules: Seq::from_vec(rules),
-    })
+/// The text of a library, and whether it lists a claim as undecided.
+#[derive(Drop)]
+pub(crate) struct Library {
+    pub(crate) text: String,
+    pub(crate) is_open: bool,
 }
 
-/// The answers for all goals, in the order of the file.
-fn answers(alloc: Global, spec: &Spec, bound: u8) -> Result<Vec<GoalAnswer>, AllocError>
-    requires bound { bound ≤ 6 }
-    requires searchable { All (λ (g : Goal). CanSearch (file spec.now) g bound) (file spec.now).goals }
-    ensures { IfOk result (λ answers. Pairwise (λ (g : Goal) (a : GoalAnswer). IsAnswer (file spec.now) g bound a)
-        (file spec.now).goals answers.items) }
+/// What became of each claim, by rising number, with so many units of work for each.
+fn book_of(
+    alloc: Global,
+    spec: &Spec,
+    plan: ClaimPlan,
+    budget: u64,
+) -> Result<Vec<(u64, Outcome)>, AllocError>
+    requires plan { IsPlanOf (file spec.now) plan }
+    requires memory { ¬ HasMemory (file spec.now) }
+    requires budget { 1 ≤ budget }
+    ensures book { IfOk result (λ book. IsBook (length (claims plan)) book.items) }
+    ensures right { IfOk result (λ book. AreRight (file spec.now) plan budget book.items) }
 {
-    let mut answers = Vec::new(alloc);
-    for goal in 0..spec.goals.len() as u32 {
-        answers.push(answer(alloc, spec, goal, bound)?)?;
+    let mut book = Vec::new(alloc);
+    for number in 0..plan.claims() {
+        let (goal, multi) = plan.claim(number);
+        book.push((number, settle(alloc, spec, goal, &multi, budget)))?;
     }
-    Ok(answers)
+    Ok(book)
 }
 
-/// The text of the library of a file.
-pub(crate) fn library_of(alloc: Global, spec: &Spec, bound: u8) -> Result<String, AllocError>
-    requires bound { bound ≤ 6 }
-    requires searchable { All (λ (g : Goal). CanSearch (file spec.now) g bound) (file spec.now).goals }
-    ensures { IfOk result (λ text. IsLibraryText (file spec.now) bound (string_bytes text)) }
+/// Whether an answer lists undecided claims.
+fn lists_open(answer: &GoalAnswer) -> bool
+    ensures { result ≡ lists_open answer.now }
 {
-    let answers = answers(alloc, spec, bound)?;
-    write_library(alloc, spec, &answers)
+    match answer {
+        GoalAnswer::Complete { .. } => false,
+        GoalAnswer::Partial { .. } => true,
+        GoalAnswer::None => false,
+        GoalAnswer::Stopped { .. } => true,
+    }
+}
+
+/// Whether one of some answers does.
+fn list_open(answers: &[GoalAnswer]) -> bool
+    ensures { result ≡ list_any lists_open answers.now }
+{
+    for answer in answers {
+        if lists_open(answer) {
+            return true;
+        }
+    }
+    false
+}
+
+/// The library of a file, with so many units of work for each claim.
+pub(crate) fn library_of(
+    alloc: Global,
+    spec: &Spec,
+    plan: ClaimPlan,
+    budget: u64,
+) -> Result<Library, AllocError>
+    requires plan { IsPlanOf (file spec.now) plan }
+    requires memory { ¬ HasMemory (file spec.now) }
+    requires budget { 1 ≤ budget }
+    ensures { IfOk result (IsTextOf (file spec.now) plan.bound budget) }
+{
+    let book = book_of(alloc, spec, plan, budget)?;
+    let finished = finish_book(alloc, spec, plan, &book)?;
+    let answers = finished.goals.as_slice();
+    let text = write_library(alloc, spec, answers)?;
+    Ok(Library {
+        text,
+        is_open: list_open(answers),
+    })
 }

@@ -2,32 +2,40 @@
 //!
 //! Nothing is written to `out` before the work is done, and a failure is told on `notes` alone.
 
-ghost use Rattle.std.specs.Prelude.{◌≡◌, ◌≢◌, ◌≤◌, ◌++◌, ℕ, List, Some, IsErrOf, IsTrue, map, ◌⊎◌, ◌↔◌, MatchResult};
+ghost use Rattle.std.specs.Prelude.{◌≡◌, ◌≢◌, ◌≤◌, ◌++◌, ℕ, List, Some, IsErrOf, IsTrue, map, ◌⊎◌, ◌↔◌};
+ghost use Rattle.std.specs.Prelude.{MatchResult};
 ghost use Rattle.std.specs.String.{string_bytes};
 ghost use Rattle.isel_spec.specs.File.{File};
 ghost use Rattle.isel_base.specs.Outside.{Rose, HasPrefix, ReadsOnly};
 ghost use Rattle.isel_cmd.specs.declared.refusal.Reason.{Reason};
 ghost use Rattle.isel_cmd.specs.Words.{Task, IsTask, HasNoForm, Synth, file_of, bound_of};
 ghost use Rattle.isel_cmd.specs.Refusal.{IsReason, refusal_line};
-ghost use Rattle.isel_cmd.specs.Status.{number_of, failure_status, failure_line, memory_line};
-ghost use Rattle.isel_cmd.specs.Program.{IsAccepted, IsWork, IsRefused, IsCause, IsNote, IsSomeNote, Writes};
-ghost use Rattle.isel_cmd.specs.Program.{WritesAtMostPart, IsTaskStatus, with_text, no_form_line};
+ghost use Rattle.isel_cmd.specs.Status.{number_of, done_status, failure_status, failure_line, memory_line, IsDone};
+ghost use Rattle.isel_cmd.specs.Program.{IsAccepted, IsWork, IsSomeWork, IsRefused, IsCause, IsNote, IsSomeNote};
+ghost use Rattle.isel_cmd.specs.Program.{Writes, WritesAtMostPart, IsTaskStatus, with_text, no_form_line};
 
 use crate::accepted::accepted;
-use crate::library::library_of;
+use crate::library::{Library, library_of};
 use crate::refusal::{Failure, line_of, status_of};
 use crate::status::Status;
 use crate::words::parse;
 use isel_base::{Files, Sink, put_all};
 use std::alloc::{AllocError, Global};
 
-/// The text of the library of the file of that name.
-fn library<F: Files>(alloc: Global, files: &mut F, name: &str, bound: u8) -> Result<String, Failure>
-    requires { bound ≤ 6 }
+/// The library of the file of that name.
+fn library_for<F: Files>(
+    alloc: Global,
+    files: &mut F,
+    name: &str,
+    bound: u8,
+    budget: u64,
+) -> Result<Library, Failure>
+    requires bound { bound ≤ 6 }
+    requires budget { 1 ≤ budget }
     ensures outcome { MatchResult result
-        (λ text. IsWork (F.bytes files.old) (Synth name.now bound) (string_bytes text))
-        (IsCause (F.bytes files.old) (λ other. Rose (F.faults files.old other) (F.faults files.new other))
-        (Synth name.now bound)) }
+        (λ l. IsWork (F.bytes files.old) (Synth name.now bound budget) (done_status l.is_open) (string_bytes l.text))
+        (IsCause (F.bytes files.old) (λ other. Rose (F.faults files.old other) (F.faults files.new other)) name.now
+        bound) }
     ensures only { ReadsOnly F.read_leaves name.now files.old files.new }
     ensures steady { IsTrue (F.never_fails files.old name.now) → ¬ IsErrOf result Failure.ReadFault }
     ensures counts { (other : List ℕ) → F.faults files.old other ≤ F.faults files.new other }
@@ -35,12 +43,12 @@ fn library<F: Files>(alloc: Global, files: &mut F, name: &str, bound: u8) -> Res
     ensures stays { (other : List ℕ) → IsTrue (F.never_fails files.old other) →
         IsTrue (F.never_fails files.new other) }
 {
-    let spec = match accepted(alloc, files, name, bound) {
-        Ok(spec) => spec,
+    let accepted = match accepted(alloc, files, name, bound) {
+        Ok(accepted) => accepted,
         Err(failure) => return Err(failure),
     };
-    match library_of(alloc, &spec, bound) {
-        Ok(text) => Ok(text),
+    match library_of(alloc, &accepted.spec, accepted.plan, budget) {
+        Ok(library) => Ok(library),
         Err(AllocError) => Err(Failure::NoMemory),
     }
 }
@@ -78,16 +86,25 @@ fn refuse<E: Sink>(alloc: Global, notes: &mut E, name: &str, failure: Failure) -
     }
 }
 
-/// Writes a text to `out`.
-fn deliver<S: Sink>(out: &mut S, text: &str) -> Status
-    ensures status { (number_of result ≡ 0) ⊎ (number_of result ≡ 5) }
-    ensures done { number_of result ≡ 0 → S.written out.new ≡ with_text text.now (S.written out.old) }
-    ensures cut { number_of result ≡ 5 → HasPrefix (S.written out.old) text.now (S.written out.new) }
+/// The status where the work is done, by whether a claim is listed as undecided.
+fn done(is_open: bool) -> Status
+    ensures { number_of result ≡ done_status is_open }
+{
+    if is_open { Status::Open } else { Status::Done }
+}
+
+/// Writes a library to `out`.
+fn deliver<S: Sink>(out: &mut S, library: &Library) -> Status
+    ensures status { (number_of result ≡ done_status library.now.is_open) ⊎ (number_of result ≡ 5) }
+    ensures done { number_of result ≢ 5 →
+        S.written out.new ≡ with_text (string_bytes library.now.text) (S.written out.old) }
+    ensures cut { number_of result ≡ 5 →
+        HasPrefix (S.written out.old) (string_bytes library.now.text) (S.written out.new) }
     ensures cause { number_of result ≡ 5 → Rose (S.faults out.old) (S.faults out.new) }
     ensures count { S.faults out.old ≤ S.faults out.new }
 {
-    match put_all(out, text.as_bytes()) {
-        Ok(()) => Status::Done,
+    match put_all(out, library.text.as_bytes()) {
+        Ok(()) => done(library.is_open),
         Err(_) => Status::WriteFailed,
     }
 }
@@ -100,26 +117,29 @@ fn synth<F: Files, S: Sink, E: Sink>(
     notes: &mut E,
     name: &str,
     bound: u8,
+    budget: u64,
 ) -> Status
-    requires { bound ≤ 6 }
+    requires bound { bound ≤ 6 }
+    requires budget { 1 ≤ budget }
     ensures status { IsTaskStatus (number_of result) }
-    ensures headline { number_of result ≡ 0 →
-        Writes (IsWork (F.bytes files.old) (Synth name.now bound)) (S.written out.old) (S.written out.new) }
+    ensures headline { IsDone (number_of result) →
+        Writes (IsWork (F.bytes files.old) (Synth name.now bound budget) (number_of result)) (S.written out.old)
+        (S.written out.new) }
     ensures line { number_of result ≢ 5 → Writes (IsNote (F.bytes files.old)
-        (λ other. Rose (F.faults files.old other) (F.faults files.new other)) (Synth name.now bound)
+        (λ other. Rose (F.faults files.old other) (F.faults files.new other)) (Synth name.now bound budget)
         (number_of result)) (E.written notes.old) (E.written notes.new) }
     ensures cut { number_of result ≡ 5 →
-        WritesAtMostPart (IsWork (F.bytes files.old) (Synth name.now bound)) (S.written out.old)
+        WritesAtMostPart (IsSomeWork (F.bytes files.old) (Synth name.now bound budget)) (S.written out.old)
         (S.written out.new) }
     ensures cut_line { number_of result ≡ 5 → WritesAtMostPart (IsSomeNote (F.bytes files.old)
-        (λ other. Rose (F.faults files.old other) (F.faults files.new other)) (Synth name.now bound))
+        (λ other. Rose (F.faults files.old other) (F.faults files.new other)) (Synth name.now bound budget))
         (E.written notes.old) (E.written notes.new) }
     ensures write_fault { number_of result ≡ 5 → Rose (S.faults out.old) (S.faults out.new) ⊎
         Rose (E.faults notes.old) (E.faults notes.new) }
     ensures one_fails { number_of result ≡ 5 →
         ((S.written out.new ≡ S.written out.old) × Rose (E.faults notes.old) (E.faults notes.new)) ⊎
         ((E.written notes.new ≡ E.written notes.old) × Rose (S.faults out.old) (S.faults out.new)) }
-    ensures out_left { number_of result ≢ 0 → number_of result ≢ 5 → out.new ≡ out.old }
+    ensures out_left { ¬ IsDone (number_of result) → number_of result ≢ 5 → out.new ≡ out.old }
     ensures only { ReadsOnly F.read_leaves name.now files.old files.new }
     ensures steady { IsTrue (F.never_fails files.old name.now) → number_of result ≢ 4 }
     ensures files_count { (other : List ℕ) → F.faults files.old other ≤ F.faults files.new other }
@@ -128,17 +148,17 @@ fn synth<F: Files, S: Sink, E: Sink>(
         IsTrue (F.never_fails files.new other) }
     ensures out_count { S.faults out.old ≤ S.faults out.new }
     ensures notes_count { E.faults notes.old ≤ E.faults notes.new }
-    ensures notes_left { number_of result ≡ 0 → notes.new ≡ notes.old }
+    ensures notes_left { IsDone (number_of result) → notes.new ≡ notes.old }
     ensures one_left { number_of result ≡ 5 → (out.new ≡ out.old) ⊎ (notes.new ≡ notes.old) }
 {
-    match library(alloc, files, name, bound) {
-        Ok(text) => deliver(out, text.as_str()),
+    match library_for(alloc, files, name, bound, budget) {
+        Ok(library) => deliver(out, &library),
         Err(failure) => refuse(alloc, notes, name, failure),
     }
 }
 
-/// The statuses, for readers of the contract: 0 the library was written; 2 the words have no form;
-/// 3 the file is refused; 4 the file could not be read; 5 a write failed; 6 memory ran out.
+/// The statuses, for readers of the contract: 0 the library was written; 1 it was, and lists an undecided claim; 2 the
+/// words have no form; 3 the file is refused; 4 the file could not be read; 5 a write failed; 6 memory ran out.
 ///
 /// All that the program does: the words of the command line, without the program's name, are
 /// looked at, the named file is read from `files`, its library is written to `out`, and where that is
@@ -151,9 +171,11 @@ pub fn run_here<F: Files, S: Sink, E: Sink>(
     notes: &mut E,
 ) -> u8
     // The bytes of the named file are a file that is not refused, and what this call appended to `out` is the text of
-    // an answer for each of its goals that is right on every input and complete for the bound.
-    ensures headline { (task : Task) → IsTask (map string_bytes words.now) task → result ≡ 0 →
-        Writes (IsWork (F.bytes files.old) task) (S.written out.old) (S.written out.new) }
+    // an answer for each of its goals: its rules are right on every input; where no claim is listed as undecided they
+    // are complete for the bound, and the whole budget was spent on each claim that is. Status 1 comes exactly where
+    // the work is done and a claim is listed as undecided.
+    ensures headline { (task : Task) → IsTask (map string_bytes words.now) task → IsDone result →
+        Writes (IsWork (F.bytes files.old) task result) (S.written out.old) (S.written out.new) }
 
     // Status 2 comes exactly where the words have no form, unless the line could not be written.
     ensures no_form { result ≡ 2 → HasNoForm (map string_bytes words.now) }
@@ -165,9 +187,9 @@ pub fn run_here<F: Files, S: Sink, E: Sink>(
         ((result ≡ 2) ↔ (HasNoForm (map string_bytes words.now)
         × (E.written notes.new ≡ Some (before ++ no_form_line)))) }
 
-    // What is written to `notes`: nothing with status 0, else the line of the status, whose cause holds: the bytes are
-    // refused for the reason that it says, or reading them failed. With status 5 a part of a line whose cause holds, or
-    // nothing.
+    // What is written to `notes`: nothing where the work is done, else the line of the status, whose cause holds: the
+    // bytes are refused for the reason that it says, or reading them failed. With status 5 a part of a line whose cause
+    // holds, or nothing.
     ensures line { (task : Task) → IsTask (map string_bytes words.now) task → result ≢ 5 →
         Writes (IsNote (F.bytes files.old) (λ other. Rose (F.faults files.old other) (F.faults files.new other)) task
         result) (E.written notes.old) (E.written notes.new) }
@@ -182,7 +204,7 @@ pub fn run_here<F: Files, S: Sink, E: Sink>(
     // A file that is refused has no library. Its bytes have one reason, and so its line is theirs.
     ensures refused_only { (task : Task) (bytes : List ℕ) (reason : Reason) →
         IsTask (map string_bytes words.now) task → F.bytes files.old (file_of task) ≡ Some bytes →
-        IsReason bytes (bound_of task) reason → result ≢ 0 }
+        IsReason bytes (bound_of task) reason → ¬ IsDone result }
     ensures refused_line { (task : Task) (bytes : List ℕ) (reason : Reason) →
         IsTask (map string_bytes words.now) task → F.bytes files.old (file_of task) ≡ Some bytes →
         IsReason bytes (bound_of task) reason → result ≡ 3 →
@@ -205,10 +227,10 @@ pub fn run_here<F: Files, S: Sink, E: Sink>(
         ((E.written notes.new ≡ E.written notes.old) × Rose (S.faults out.old) (S.faults out.new)) }
 
     // Nothing is written to `out` before the work is done, and a part of the text where a write fails.
-    ensures untouched { result ≢ 0 → result ≢ 5 → S.written out.new ≡ S.written out.old }
+    ensures untouched { ¬ IsDone result → result ≢ 5 → S.written out.new ≡ S.written out.old }
     ensures no_form_untouched { HasNoForm (map string_bytes words.now) → S.written out.new ≡ S.written out.old }
     ensures cut { (task : Task) → IsTask (map string_bytes words.now) task → result ≡ 5 →
-        WritesAtMostPart (IsWork (F.bytes files.old) task) (S.written out.old) (S.written out.new) }
+        WritesAtMostPart (IsSomeWork (F.bytes files.old) task) (S.written out.old) (S.written out.new) }
 
     // No file but the named one is read. What the source tells stays, and counts never fall.
     ensures reads_only { (task : Task) → IsTask (map string_bytes words.now) task →
@@ -226,18 +248,21 @@ pub fn run_here<F: Files, S: Sink, E: Sink>(
         F.bytes files.old (file_of task) ≡ Some bytes → IsAccepted bytes (bound_of task) f →
         ¬ Rose (F.faults files.old (file_of task)) (F.faults files.new (file_of task)) →
         ¬ Rose (S.faults out.old) (S.faults out.new) → ¬ Rose (E.faults notes.old) (E.faults notes.new) →
-        (result ≡ 0) ⊎ (result ≡ 6) }
+        IsDone result ⊎ (result ≡ 6) }
     ensures steady { (task : Task) → IsTask (map string_bytes words.now) task →
         IsTrue (F.never_fails files.old (file_of task)) → result ≢ 4 }
 
     // What is not to be used is left as it was, also where it tells nothing.
-    ensures out_left { result ≢ 0 → result ≢ 5 → out.new ≡ out.old }
-    ensures notes_left { result ≡ 0 → notes.new ≡ notes.old }
+    ensures out_left { ¬ IsDone result → result ≢ 5 → out.new ≡ out.old }
+    ensures notes_left { IsDone result → notes.new ≡ notes.old }
     ensures one_left { result ≡ 5 → (out.new ≡ out.old) ⊎ (notes.new ≡ notes.old) }
     ensures no_form_left { HasNoForm (map string_bytes words.now) → (files.new ≡ files.old) × (out.new ≡ out.old) }
 {
     match parse(words) {
         None => tell(notes, b"words: no such form\n", Status::NoForm).number(),
-        Some(command) => synth(alloc, files, out, notes, command.file(), command.bound()).number(),
+        Some(command) => {
+            let (name, bound, budget) = (command.file(), command.bound(), command.budget());
+            synth(alloc, files, out, notes, name, bound, budget).number()
+        }
     }
 }

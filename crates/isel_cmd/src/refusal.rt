@@ -27,8 +27,8 @@ pub(crate) enum Reason {
     },
     /// It has a memory, which the search does not take yet.
     MemLater,
-    /// A goal has too many inputs or attributes for the search.
-    Wide,
+    /// It has more than 2^20 claims: goals, each with a multiset of operations.
+    TooMany,
 }
 
 /// Why no library is written.
@@ -116,7 +116,7 @@ fn reason_text(alloc: Global, reason: Reason) -> Result<String, AllocError>
         Reason::TooLong => String::from_str(alloc, ": TooLong"),
         Reason::Faulty { kind, line, column } => fault_text(alloc, line, column, kind_name(kind)),
         Reason::MemLater => String::from_str(alloc, ": MemLater"),
-        Reason::Wide => String::from_str(alloc, ": Wide"),
+        Reason::TooMany => String::from_str(alloc, ": TooMany"),
     }
 }
 

@@ -6,8 +6,10 @@ ghost use Rattle.isel_cmd.specs.Status.{number_of};
 /// How a run ended.
 #[derive(Clone, Copy)]
 pub enum Status {
-    /// The library was written.
+    /// The library was written, and lists no claim as undecided.
     Done,
+    /// The library was written, and lists an undecided claim.
+    Open,
     /// The words have no form.
     NoForm,
     /// The file is not of the accepted form.
@@ -27,6 +29,7 @@ impl Status {
     {
         match self {
             Status::Done => 0,
+            Status::Open => 1,
             Status::NoForm => 2,
             Status::Refused => 3,
             Status::ReadFailed => 4,

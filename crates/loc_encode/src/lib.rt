@@ -4,8 +4,9 @@
 //! - `encoded`: [`Encoded`], the formula; [`encode`], [`extend`] and [`block`] make it.
 //! - `decoding`, `assignment`: [`decode`], the pattern for which values stand; [`assign`], values that stand for one.
 //! - `laws`: what holds of each formula.
-//! - `shape`: the values stand for a pattern of the claim. `layout`: which slots there are. `kinds`, `sources`, `sorts`,
-//!   `filling`, `choosing`, `naming`, `mentions`: its conditions, each a term. `truths`: nodes of truth values.
+//! - `shape`: the values stand for a pattern of the claim. `layout`: which slots there are. `kinds`, `sources`,
+//!   `sorts`, `filling`, `choosing`, `naming`, `mentions`: its conditions, each a term. `truths`: nodes of truth
+//!   values.
 //! - `agreement`: the pattern gives the goal's results at an example. `lines`, `taking`, `building`: the terms of each
 //!   line's results, of what takes one of some sources, and of choices.
 //! - `difference`: the pattern is another one than a blocked one. `conditions`: its parts. `source_sorts`: sorts of

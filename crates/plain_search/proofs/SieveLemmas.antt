@@ -165,7 +165,7 @@ rules-from_sieve s place g there ops old new limits plain e n none h =
 -- ---- the rules of several multisets
 
 -- of two patterns of a size that one is less whose multiset is
-less_by_multiset : (p q : Pattern) → length (multiset p.nodes) ≡ length (multiset q.nodes)
+pub less_by_multiset : (p q : Pattern) → length (multiset p.nodes) ≡ length (multiset q.nodes)
     → Before (multiset p.nodes) (multiset q.nodes) → Lower pattern_cmp p q
 less_by_multiset p q same before =
     let last : Ordering =
@@ -177,7 +177,7 @@ less_by_multiset p q same before =
     (ap (nat_cmp (length p.nodes)) sizes ∙ nat_cmp-same (length p.nodes))
     (then_less (slice_cmp nat_cmp (multiset p.nodes) (multiset q.nodes)) last before)
 
-rises_on : {X : Type 0} (cmp : X → X → Ordering) (xs ys : List X) → IsRising cmp xs → IsRising cmp ys
+pub rises_on : {X : Type 0} (cmp : X → X → Ordering) (xs ys : List X) → IsRising cmp xs → IsRising cmp ys
     → ((x y : X) → In xs x → In ys y → Lower cmp x y) → IsRising cmp (xs ++ ys)
 rises_on cmp [] ys h k apart = k
 rises_on cmp (x ∷ []) [] h k apart = tt
@@ -285,6 +285,10 @@ test_from_NeverFalls (x ∷ []) h = refl
 test_from_NeverFalls (x ∷ (y ∷ ys)) h =
     and-both (nat_le x y) (never_falls (y ∷ ys)) (le_true x y (h.0 y (inl refl))) (test_from_NeverFalls (y ∷ ys) h.1)
 
+-- the multiset of a pattern's operations is one of those that never fall
+pub multiset_never_falls : (ns : List Node) → never_falls (multiset ns) ≡ true
+multiset_never_falls ns = test_from_NeverFalls (multiset ns) (NeverFalls-multiset ns)
+
 In_of_multiset : (ns : List Node) (op : ℕ) → In (multiset ns) op → (n : Node) × In ns n × (n.op ≡ op)
 In_of_multiset [] op i = absurd i
 In_of_multiset (n ∷ ns) op i =
@@ -293,7 +297,8 @@ In_of_multiset (n ∷ ns) op i =
       | inr j ↦ (let r = In_of_multiset ns op j in (r.0, inr r.1, r.2))
     ]
 
-operations_below : (f : File) (g : Goal) (ns : List Node) → AreFitting f g ns → AreBelow (length f.ops) (multiset ns)
+pub operations_below : (f : File) (g : Goal) (ns : List Node) → AreFitting f g ns
+    → AreBelow (length f.ops) (multiset ns)
 operations_below f g ns fit = λ k d l. below (get_or (multiset ns) k d) (In-get_or (multiset ns) k d l)
   where
     below : (op : ℕ) → In (multiset ns) op → op < length f.ops
@@ -317,7 +322,7 @@ AreRules-from_among f g kinds size multis rules e are among = record {
           (are.members (multiset p.nodes)).1 (
             length-multiset p.nodes ∙ h.2,
             subst (λ n. AreBelow n (multiset p.nodes)) e (operations_below f g p.nodes fit.nodes),
-            test_from_NeverFalls (multiset p.nodes) (NeverFalls-multiset p.nodes),
+            multiset_never_falls p.nodes,
           ),
           h.3,
         ),

@@ -28,14 +28,14 @@ use Rattle.plain_search.proofs.SieveLemmas.{AreRulesPlain, AreRulesAmong-more}
 
 -- ---- the multisets of a size
 
-In_of_take : {X : Type 0} (xs : List X) (i : ℕ) (y : X) → In (take i xs) y → In xs y
+pub In_of_take : {X : Type 0} (xs : List X) (i : ℕ) (y : X) → In (take i xs) y → In xs y
 In_of_take xs zero y h = absurd h
 In_of_take [] (suc i) y h = h
 In_of_take (x ∷ xs) (suc i) y (inl e) = inl e
 In_of_take (x ∷ xs) (suc i) y (inr h) = inr (In_of_take xs i y h)
 
 -- what stands in a place comes after what stands before it
-before_place : {X : Type 0} (R : X → X → Type 0) (xs : List X) (i : ℕ) (x : X) → IsOrdered R xs
+pub before_place : {X : Type 0} (R : X → X → Type 0) (xs : List X) (i : ℕ) (x : X) → IsOrdered R xs
     → slice_get xs i ≡ Some x → (y : X) → In (take i xs) y → R y x
 before_place R [] i x h at y j = absurd (cc)
 before_place R (z ∷ zs) zero x h at y j = absurd j
@@ -43,7 +43,7 @@ before_place {X} R (z ∷ zs) (suc i) x h at y (inl e) =
     subst (λ (w : X). R w x) e (h.0 x (In-slice_get zs i x at))
 before_place R (z ∷ zs) (suc i) x h at y (inr j) = before_place R zs i x h.1 at y j
 
-take_next : {X : Type 0} (xs : List X) (i : ℕ) (x : X) → slice_get xs i ≡ Some x
+pub take_next : {X : Type 0} (xs : List X) (i : ℕ) (x : X) → slice_get xs i ≡ Some x
     → take (i + 1) xs ≡ take i xs ++ x ∷ []
 take_next {X} xs i x at =
     take_more xs i x (slice_get_within xs i x at)

@@ -25,7 +25,7 @@ mod sources;
 mod trial_count;
 
 pub use agreement::{GoalTable, goal_table, is_rule};
-pub use extent::{can_search, has_no_memory};
+pub use extent::{attribute_bits_of, can_search, has_no_memory};
 pub use rules::{search, search_multi};
 pub use sifting::{Sieve, each_pattern};
 pub use trial_count::trials;

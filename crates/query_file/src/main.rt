@@ -1,5 +1,5 @@
-//! The program `query_file`: it reads formulas over bit-vectors from standard input, one a line, and prints for each the
-//! values that make it true, or that there are none. The formulas are over bit-vectors `x`, `y`, `z` and `r`, whose
+//! The program `query_file`: it reads formulas over bit-vectors from standard input, one a line, and prints for each
+//! the values that make it true, or that there are none. The formulas are over bit-vectors `x`, `y`, `z` and `r`, whose
 //! width is the program's first word, and over a truth value `b`. With a second word it stops after a step of each
 //! question, so that the steps' costs can be told apart: `terms`, `clauses` or `model`.
 #![tactic(auto)]

@@ -43,10 +43,20 @@ const NAND1_LIBRARY: &str = "(isel-library 1)\n\
     (rule ((and1 i1 i0) (not1 n0.0)) (n1.0))\n\
     )\n";
 
-/// Goals of 16 input bits.
-const WIDE: &str = "(isel-spec 1 32)\n\
+/// A goal of 16 input bits.
+const ANDN8: &str = "(isel-spec 1 32)\n\
     (op not8 ((a (_ BitVec 8))) () ((bvnot a)))\n\
+    (op and8 ((a (_ BitVec 8)) (b (_ BitVec 8))) () ((bvand a b)))\n\
     (goal andn8 ((reg a (_ BitVec 8)) (reg b (_ BitVec 8))) 1 ((bvand (bvnot a) b)))\n";
+
+const ANDN8_LIBRARY: &str = "(isel-library 1)\n\
+    (goal andn8 complete 2\n \
+    (rule ((not8 i0) (and8 i1 n0.0)) (n1.0))\n \
+    (rule ((not8 i0) (and8 n0.0 i1)) (n1.0))\n\
+    )\n";
+
+/// The line of its claim with both operations, which has two rules.
+const ANDN8_OPEN: &str = " (open (not8 and8))\n";
 
 /// A goal that is its first input, before the operations.
 const MOVE4: &str = "(isel-spec 1 32) \
@@ -73,7 +83,7 @@ const NO_PATTERN: &str = "(isel-library 1)\n(goal or1 none)\n";
 const INPUT: &str = "(isel-library 1)\n(goal m complete 0\n (rule () (i0))\n)\n";
 
 /// The words that ask for patterns of one operation.
-const ONE: &str = "synth f --bound 1";
+const ONE: &str = "synth f --bound 1 --budget 100000";
 
 /// A number that no read and no put has.
 const NEVER: u64 = u64::MAX;
@@ -168,13 +178,41 @@ fn spaces(alloc: Global, count: usize) -> Result<Vec<u8>, AllocError> {
 }
 
 /// A name, the words, the bytes of the file `f`, and the library.
-const LIBRARIES: [(&str, &str, &str, &str); 6] = [
+const LIBRARIES: [(&str, &str, &str, &str); 8] = [
     ("rules", ONE, OR1, OR1_LIBRARY),
-    ("no pattern", "synth f --bound 0", OR1, NO_PATTERN),
+    (
+        "no pattern",
+        "synth f --bound 0 --budget 100",
+        OR1,
+        NO_PATTERN,
+    ),
     ("an input", ONE, MOVE4, INPUT),
     ("two goals", ONE, TWO_GOALS, TWO_ANSWERS),
-    ("a bound of 2", "synth f --bound 2", NAND1, NAND1_LIBRARY),
-    ("a bound of 3", "synth f --bound 3", MOVE4, INPUT),
+    (
+        "a bound of 2",
+        "synth f --bound 2 --budget 100000",
+        NAND1,
+        NAND1_LIBRARY,
+    ),
+    (
+        "a bound of 6",
+        "synth f --bound 6 --budget 4294967296",
+        MOVE4,
+        INPUT,
+    ),
+    (
+        "2^16 inputs",
+        "synth f --bound 2 --budget 100000",
+        ANDN8,
+        ANDN8_LIBRARY,
+    ),
+    // As many units as each claim of one operation has trials.
+    (
+        "a budget of all trials",
+        "synth f --bound 1 --budget 108",
+        OR1,
+        OR1_LIBRARY,
+    ),
 ];
 
 #[test]
@@ -187,8 +225,7 @@ fn accepted_files_have_their_library(rt: HostRuntime) -> Result<(), Fail> {
 }
 
 /// A name, the bytes of the file `f`, and the note.
-const REFUSED: [(&str, &str, &str); 8] = [
-    ("too many input bits", WIDE, "f: Wide\n"),
+const REFUSED: [(&str, &str, &str); 7] = [
     ("an operation with a memory", LOAD, "f: MemLater\n"),
     ("a goal with a memory", STORE, "f: MemLater\n"),
     ("a name of nothing", UNKNOWN, "f:2:40: Unknown\n"),
@@ -226,14 +263,18 @@ fn a_file_of_too_many_bytes_is_refused(rt: HostRuntime) -> Result<(), Fail> {
     Ok(())
 }
 
-const NO_FORM: [&str; 7] = [
+const NO_FORM: [&str; 11] = [
     "",
-    "synth f --bound 4",
-    "synth f --bound 01",
-    "synth --bound 1 f",
-    "synth -f --bound 1",
-    "synth f --bound 1 --json",
-    "read f --bound 1",
+    "synth f --bound 1",
+    "synth f --bound 7 --budget 1",
+    "synth f --bound 01 --budget 1",
+    "synth f --bound 1 --budget 0",
+    "synth f --bound 1 --budget 4294967297",
+    "synth f --bound 1 --budget +1",
+    "synth f --budget 1 --bound 1",
+    "synth -f --bound 1 --budget 1",
+    "synth f --bound 1 --budget 1 --json",
+    "read f --bound 1 --budget 1",
 ];
 
 #[test]
@@ -250,7 +291,7 @@ fn a_name_without_a_file_cannot_be_read(rt: HostRuntime) -> Result<(), Fail> {
     let outside = without_faults(OR1.as_bytes());
     let ended = ended(
         rt.alloc(),
-        "synth g --bound 1",
+        "synth g --bound 1 --budget 1",
         outside,
         "",
         "g: ReadFault\n",
@@ -296,17 +337,17 @@ const FAULTS: [(&str, &str, u64, usize, u64, u64, u8, &str, &str); 6] = [
         OR1_LIBRARY,
         "",
     ),
-    ("the note", WIDE, NEVER, LARGE, NEVER, 0, 5, "", ""),
+    ("the note", UNKNOWN, NEVER, LARGE, NEVER, 0, 5, "", ""),
     (
         "the note's second put",
-        WIDE,
+        UNKNOWN,
         NEVER,
         4,
         NEVER,
         1,
         5,
         "",
-        "f: W",
+        "f:2:",
     ),
 ];
 
@@ -323,5 +364,56 @@ fn failing_reads_and_writes_end_with_their_status(rt: HostRuntime) -> Result<(),
         let ended = ended(rt.alloc(), ONE, outside, library, note)?;
         assert!(rt; ended == (status, true, true), "{case}");
     }
+    Ok(())
+}
+
+/// Whether a text stands in another one.
+fn stands_in(text: &[u8], whole: &[u8]) -> bool {
+    for place in 0..whole.len() {
+        if whole[place..].starts_with(text) {
+            return true;
+        }
+    }
+    false
+}
+
+/// The status of a run on a file, and whether what it writes has that line.
+fn lists(alloc: Global, line: &str, text: &str, listed: &str) -> Result<(u8, bool), AllocError> {
+    let words = words_of(alloc, line)?;
+    let mut files = files_of(alloc, text.as_bytes(), NEVER)?;
+    let mut out = sink_of(alloc, LARGE, NEVER)?;
+    let mut notes = sink_of(alloc, LARGE, NEVER)?;
+    let status = run_here(alloc, &words, &mut files, &mut out, &mut notes);
+    Ok((status, stands_in(listed.as_bytes(), out.bytes())))
+}
+
+#[test]
+fn a_claim_on_which_the_budget_was_spent_is_listed(rt: HostRuntime) -> Result<(), Fail> {
+    let listed = lists(
+        rt.alloc(),
+        "synth f --bound 2 --budget 1",
+        ANDN8,
+        ANDN8_OPEN,
+    )?;
+    assert!(rt; listed == (1, true));
+    Ok(())
+}
+
+/// A file of a goal and so many operations.
+fn operations(alloc: Global, count: u32) -> Result<Vec<u8>, AllocError> {
+    let mut text = String::from_str(alloc, "(isel-spec 1 32)(goal same ((reg a Bool)) 0 (a))")?;
+    for number in 0..count {
+        text.push_str(format!(in alloc; "(op f{number} () () (true))")?.as_str())?;
+    }
+    Vec::from_slice(alloc, text.as_bytes())
+}
+
+#[test]
+fn a_file_of_too_many_claims_is_refused(rt: HostRuntime) -> Result<(), Fail> {
+    let bytes = operations(rt.alloc(), 64)?;
+    let outside = without_faults(&bytes);
+    let line = "synth f --bound 6 --budget 1";
+    let ended = ended(rt.alloc(), line, outside, "", "f: TooMany\n")?;
+    assert!(rt; ended == (3, true, true));
     Ok(())
 }

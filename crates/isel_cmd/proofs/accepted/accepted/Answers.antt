@@ -12,6 +12,7 @@ pub accepted_in-requires : goal.accepted_in-requires
 accepted_in-requires g c = record {
   short = subst (λ (bytes : List ℕ). length bytes ≤ most_bytes) (sym c.deref.ensures.value)
       (c.in-Ok.ensures.bytes c.args.bound).1;
+  bound = c.requires;
 }
 
 pub returns-clause-outcome : goal.returns-clause-outcome

@@ -4,9 +4,9 @@ use Rattle.std.specs.String.{string_bytes}
 use Rattle.isel_base.specs.Outside.{Rose, ReadsOnly}
 use Rattle.isel_cmd.specs.Words.{Task, Synth, HasNoForm, file_of}
 use Rattle.isel_cmd.specs.Command.{task_of}
-use Rattle.isel_cmd.specs.Status.{number_of}
-use Rattle.isel_cmd.specs.Program.{IsWork, IsNote, IsSomeNote, Writes, WritesAtMostPart, IsTaskStatus, with_text}
-use Rattle.isel_cmd.specs.Program.{no_form_line}
+use Rattle.isel_cmd.specs.Status.{number_of, IsDone}
+use Rattle.isel_cmd.specs.Program.{IsWork, IsSomeWork, IsNote, IsSomeNote, Writes, WritesAtMostPart, IsTaskStatus}
+use Rattle.isel_cmd.specs.Program.{with_text, no_form_line}
 use Rattle.isel_cmd.proofs.TaskLemmas.{task_found}
 use Rattle.isel_cmd.proofs.NoteLemmas.{refused_of, line_of_reason, no_work, complete_from}
 use Rattle.isel_cmd.proofs.ExactLemmas.{refused_exactly, told_exactly, never_two}
@@ -27,18 +27,21 @@ returns-in-None-clause-no_form_exact g c = λ before tells.
 -- ---- words of a task
 
 pub returns-in-Some-clause-headline : goal.returns-in-Some-clause-headline
-returns-in-Some-clause-headline g c = λ task is zero.
-    let same = task_found _ task (task_of c.in-Some.command) c.file.result.now c.bound.result c.in-Some.ensures
-    c.file.ensures c.bound.ensures is in
-    let P : Task → Type 0 = λ t. Writes (IsWork (g.F.Files.bytes c.args.files.now) t)
+returns-in-Some-clause-headline g c = λ task is done.
+    let same = task_found _ task (task_of c.in-Some.command) c.file-name.result.now c.bound-bound.result
+    c.budget-budget.result c.in-Some.ensures c.file-name.ensures c.bound-bound.ensures c.budget-budget.ensures is in
+    let P : Task → ℕ → Type 0 = λ t r. Writes (IsWork (g.F.Files.bytes c.args.files.now) t r)
     (g.S.Sink.written c.args.out.now) (g.S.Sink.written c.synth.new.out) in
-    subst P same (c.synth.ensures.headline (sym c.number-in-Some.ensures ∙ zero))
+    let Q : Task → Type 0 = λ t. P t c.number-in-Some.result in
+    subst Q same
+    (subst (P (Synth c.file-name.result.now c.bound-bound.result c.budget-budget.result)) (sym c.number-in-Some.ensures)
+    (c.synth.ensures.headline (subst IsDone c.number-in-Some.ensures done)))
 
 pub returns-in-Some-clause-cut : goal.returns-in-Some-clause-cut
 returns-in-Some-clause-cut g c = λ task is five.
-    let same = task_found _ task (task_of c.in-Some.command) c.file.result.now c.bound.result c.in-Some.ensures
-    c.file.ensures c.bound.ensures is in
-    let P : Task → Type 0 = λ t. WritesAtMostPart (IsWork (g.F.Files.bytes c.args.files.now) t)
+    let same = task_found _ task (task_of c.in-Some.command) c.file-name.result.now c.bound-bound.result
+    c.budget-budget.result c.in-Some.ensures c.file-name.ensures c.bound-bound.ensures c.budget-budget.ensures is in
+    let P : Task → Type 0 = λ t. WritesAtMostPart (IsSomeWork (g.F.Files.bytes c.args.files.now) t)
     (g.S.Sink.written c.args.out.now) (g.S.Sink.written c.synth.new.out) in
     subst P same (c.synth.ensures.cut (sym c.number-in-Some.ensures ∙ five))
 
@@ -52,20 +55,21 @@ returns-in-Some-clause-no_form_exact g c = λ before tells.
 
 pub returns-in-Some-clause-line : goal.returns-in-Some-clause-line
 returns-in-Some-clause-line g c = λ task is.
-    let same = task_found _ task (task_of c.in-Some.command) c.file.result.now c.bound.result c.in-Some.ensures
-    c.file.ensures c.bound.ensures is in
+    let same = task_found _ task (task_of c.in-Some.command) c.file-name.result.now c.bound-bound.result
+    c.budget-budget.result c.in-Some.ensures c.file-name.ensures c.bound-bound.ensures c.budget-budget.ensures is in
     let failed : List ℕ → Type 0 =
     λ other. Rose (g.F.Files.faults c.args.files.now other) (g.F.Files.faults c.synth.new.files other) in
     let P : Task → ℕ → Type 0 = λ t r. r ≢ 5 → Writes (IsNote (g.F.Files.bytes c.args.files.now) failed t r)
     (g.E.Sink.written c.args.notes.now) (g.E.Sink.written c.synth.new.notes) in
     let Q : Task → Type 0 = λ t. P t c.number-in-Some.result in
     subst Q same
-    (subst (P (Synth c.file.result.now c.bound.result)) (sym c.number-in-Some.ensures) c.synth.ensures.line)
+    (subst (P (Synth c.file-name.result.now c.bound-bound.result c.budget-budget.result)) (sym c.number-in-Some.ensures)
+    c.synth.ensures.line)
 
 pub returns-in-Some-clause-cut_line : goal.returns-in-Some-clause-cut_line
 returns-in-Some-clause-cut_line g c = λ task is five.
-    let same = task_found _ task (task_of c.in-Some.command) c.file.result.now c.bound.result c.in-Some.ensures
-    c.file.ensures c.bound.ensures is in
+    let same = task_found _ task (task_of c.in-Some.command) c.file-name.result.now c.bound-bound.result
+    c.budget-budget.result c.in-Some.ensures c.file-name.ensures c.bound-bound.ensures c.budget-budget.ensures is in
     let failed : List ℕ → Type 0 =
     λ other. Rose (g.F.Files.faults c.args.files.now other) (g.F.Files.faults c.synth.new.files other) in
     let P : Task → Type 0 = λ t. WritesAtMostPart (IsSomeNote (g.F.Files.bytes c.args.files.now) failed t)
@@ -73,9 +77,9 @@ returns-in-Some-clause-cut_line g c = λ task is five.
     subst P same (c.synth.ensures.cut_line (sym c.number-in-Some.ensures ∙ five))
 
 pub returns-in-Some-clause-refused_only : goal.returns-in-Some-clause-refused_only
-returns-in-Some-clause-refused_only g c = λ task bytes reason is told why zero.
-    let work = returns-in-Some-clause-headline g c task is zero in
-    no_work (g.F.Files.bytes c.args.files.now) task bytes work.0 reason told why work.1
+returns-in-Some-clause-refused_only g c = λ task bytes reason is told why done.
+    let work = returns-in-Some-clause-headline g c task is done in
+    no_work (g.F.Files.bytes c.args.files.now) task c.number-in-Some.result bytes work.0 reason told why work.1
 
 pub returns-in-Some-clause-refused_line : goal.returns-in-Some-clause-refused_line
 returns-in-Some-clause-refused_line g c = λ task bytes reason is told why three.
@@ -98,8 +102,8 @@ returns-in-Some-clause-refused_exact g c = λ task before is tells.
 
 pub returns-in-Some-clause-reads_only : goal.returns-in-Some-clause-reads_only
 returns-in-Some-clause-reads_only g c = λ task is.
-    let same = task_found _ task (task_of c.in-Some.command) c.file.result.now c.bound.result c.in-Some.ensures
-    c.file.ensures c.bound.ensures is in
+    let same = task_found _ task (task_of c.in-Some.command) c.file-name.result.now c.bound-bound.result
+    c.budget-budget.result c.in-Some.ensures c.file-name.ensures c.bound-bound.ensures c.budget-budget.ensures is in
     let P : Task → Type 0 =
     λ t. ReadsOnly g.F.Files.read_leaves (file_of t) c.args.files.now c.synth.new.files in
     subst P same c.synth.ensures.only
@@ -117,7 +121,7 @@ returns-in-Some-clause-complete g c = λ task bytes f is told accepted read out 
 
 pub returns-in-Some-clause-steady : goal.returns-in-Some-clause-steady
 returns-in-Some-clause-steady g c = λ task is never four.
-    let same = task_found _ task (task_of c.in-Some.command) c.file.result.now c.bound.result c.in-Some.ensures
-    c.file.ensures c.bound.ensures is in
+    let same = task_found _ task (task_of c.in-Some.command) c.file-name.result.now c.bound-bound.result
+    c.budget-budget.result c.in-Some.ensures c.file-name.ensures c.bound-bound.ensures c.budget-budget.ensures is in
     let P : Task → Type 0 = λ t. IsTrue (g.F.Files.never_fails c.args.files.now (file_of t)) in
     c.synth.ensures.steady (subst P (sym same) never) (sym c.number-in-Some.ensures ∙ four)

@@ -10,7 +10,8 @@ pub with_source-requires-clause-can : goal.with_source-requires-clause-can
 with_source-requires-clause-can c =
     CanTake-from c.args.terms.now c.loop-named.terms c.args.taker c.args.sort c.args.sources.now
     c.loop-named.named-index c.loop-named.found _
-    (slice_get-get_or c.args.sources.now c.loop-named.named-index _ c.loop-named-test.true) (sym c.is_same.ensures ∙ c.if-is_same.true) c.requires.sources c.loop-named.invariant
+    (slice_get-get_or c.args.sources.now c.loop-named.named-index _ c.loop-named-test.true)
+    (sym c.is_same.ensures ∙ c.if-is_same.true) c.requires.sources c.loop-named.invariant
 
 pub loop-named-preserved : goal.loop-named-preserved
 loop-named-preserved c =

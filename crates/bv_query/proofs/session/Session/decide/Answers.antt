@@ -28,7 +28,8 @@ returns-in_ok-checked-in-Refuted-clause-clauses c =
     let inner = subst (λ (s : Asserted). IsRightSession s table) (sym c.self.view_is) c.requires in
     let kept = subst (λ (s : Asserted). AreClausesFor (formulas_in table s) c.blasted.result.now.cnf
     c.blasted.result.now.bits) c.self.view_is (c.blasted.ensures.clauses table inner.blast) in
-    let blasted = subst (λ (b : Blasted). AreClausesFor ts b.cnf b.bits) (sym c.in_ok-blasted-in-Refuted.ensures) kept in
+    let blasted =
+    subst (λ (b : Blasted). AreClausesFor ts b.cnf b.bits) (sym c.in_ok-blasted-in-Refuted.ensures) kept in
     let formula = subst (λ (o : Option Refuted). IfSome o (λ r. r.formula ≡ c.in_ok-blasted-in-Refuted.blasted.cnf))
     c.unwrap-refutation.ensures c.in_ok-checked-in-Refuted.ensures.formula in
     let bits = subst (λ (o : Option Refuted). IfSome o (λ r. r.bits ≡ c.in_ok-blasted-in-Refuted.blasted.bits))

@@ -1,0 +1,11 @@
+pub mod InputLemmas
+pub mod TrialLemmas
+pub mod MiterTables
+pub mod MiterLemmas
+pub mod ModelLemmas
+pub mod AnswerLemmas
+pub mod FinderLemmas
+pub mod ListingLemmas
+pub mod RenamedLemmas
+pub mod ProgressLemmas
+pub mod SettlingLemmas

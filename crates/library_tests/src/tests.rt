@@ -1,0 +1,3 @@
+//! A module for each subject.
+
+mod books;

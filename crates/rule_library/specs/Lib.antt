@@ -1,0 +1,4 @@
+pub mod Book
+pub mod Answer
+pub mod Promise
+pub mod Steps
